@@ -21,6 +21,7 @@ pub mod Comings
 pub mod Connections
 pub mod Consumers
 pub mod Contents
+pub mod Counts
 pub mod Credited
 pub mod Credits
 pub mod Cuts

@@ -1,5 +1,5 @@
 -- The credit that a session keeps of a sending link is no more than what the fold leaves of it.
-use Rattle.std.proofs.Common.{◌≡◌, ◌∙◌, ℕ, zero, suc, ◌≤◌, ◌<◌, List, [], ◌∷◌, ◌++◌, Bool}
+use Rattle.std.proofs.Common.{◌≡◌, ◌∙◌, ℕ, zero, suc, ◌≤◌, ◌<◌, ◌^◌, List, [], ◌∷◌, ◌++◌, Bool}
 use Rattle.std.proofs.Common.{true, false, Option, Some, None, refl, sym, subst, ap, arith, cond}
 use Rattle.std.proofs.Common.{inl, inr, length, map}
 use Rattle.std.specs.Prelude.{◌⊎◌, filter, find, is_some, not, nat_lt, ◌==◌, ◌&&◌, ◌||◌}
@@ -30,7 +30,7 @@ use Rattle.session_path.specs.declared.path.AttachHeard.{AttachHeard}
 use Rattle.session_path.specs.Links.{LinksState, Rises, answered as answered_link, attached_as, attached_if}
 use Rattle.session_path.specs.Links.{at_handle, detached_on, failed_by, failed_on, flowed_on, free_number, given_by, given_on, gone_on}
 use Rattle.session_path.specs.Links.{handle_in, handle_of, has_number, is_asked_as, is_at, is_given, is_left}
-use Rattle.session_path.specs.Links.{is_one, is_stage_asked, is_stage_at, is_stage_failed, is_stage_left, is_stage_open, is_stage_whole, is_wanted, is_wanted_receiver, left_by}
+use Rattle.session_path.specs.Links.{is_one, is_parting, is_stage_asked, is_stage_at, is_stage_failed, is_stage_given, is_stage_left, is_stage_open, is_stage_whole, is_wanted, is_wanted_receiver, left_by}
 use Rattle.session_path.specs.Links.{link_detached, link_failed, linked_to, meets, named, parted, put}
 use Rattle.session_path.specs.Links.{told_by, wanted_link, with_link_to, with_receiver, without_receivers}
 use Rattle.session_path.proofs.Ties.{and_left, and_right, apart_from, dropped, eq_of, eq_to, found_number, found_passes, gone_is}
@@ -197,20 +197,26 @@ pub record IsKept (f : ℕ → Option Credit) (t : HandleTable) (x : SendingLink
   pub number : credit.link ≡ x.link
   pub count : x.state.count ≡ credit.count
   pub low : x.state.credit ≤ left credit
+  -- all of it, where the container's link-credit is a uint
+  pub exact : credit.credit < 2 ^ 32 → x.state.credit ≡ left credit
 
 -- none came and none went yet
 abbrev pub IsNew : SendingLink → Type 0
 IsNew x = (x.attached ≡ false) × (x.state ≡ new_link)
 
--- a link that is asked for, sending or receiving
-abbrev pub HasAsked : (ℕ → Option Credit) → ℕ → ℕ → Stage → Type 0
-HasAsked f link name stage.Wanted = Unit {0}
-HasAsked f link name (stage.Asked h) = f h ≡ Some (new_credit link name)
-HasAsked f link name (stage.Open h) = Unit {0}
-HasAsked f link name (stage.Refused h) = Unit {0}
-HasAsked f link name (stage.Left h) = Unit {0}
-HasAsked f link name (stage.Given h) = Unit {0}
-HasAsked f link name (stage.Failed h fault) = Unit {0}
+-- the role in which the gateway attached a link
+abbrev pub role_in : Option Credit → Option Bool
+role_in o = option_map (λ (c : Credit). c.receives) o
+
+-- a link that is asked for, sending or receiving; later its role stays
+abbrev pub HasAsked : (ℕ → Option Credit) → ℕ → ℕ → Bool → Stage → Type 0
+HasAsked f link name role stage.Wanted = Unit {0}
+HasAsked f link name role (stage.Asked h) = f h ≡ Some (new_credit link name role)
+HasAsked f link name role (stage.Open h) = role_in (f h) ≡ Some role
+HasAsked f link name role (stage.Refused h) = role_in (f h) ≡ Some role
+HasAsked f link name role (stage.Left h) = role_in (f h) ≡ Some role
+HasAsked f link name role (stage.Given h) = role_in (f h) ≡ Some role
+HasAsked f link name role (stage.Failed h fault) = role_in (f h) ≡ Some role
 
 -- a link whose credit is kept
 abbrev pub AtStage : (ℕ → Option Credit) → HandleTable → SendingLink → Stage → Type 0
@@ -222,17 +228,75 @@ AtStage f t x (stage.Left h) = ⊥
 AtStage f t x (stage.Given h) = ⊥
 AtStage f t x (stage.Failed h fault) = ⊥
 
+-- no credit is kept of one that receives, or that an end detached
+abbrev pub IsSpent : PathLink → Type 0
+IsSpent l = (l.receives || is_parting l) ≡ true
+
 abbrev pub Sends : (ℕ → Option Credit) → HandleTable → Option SendingLink → PathLink → Type 0
-Sends f t None l = Unit {0}
+Sends f t None l = IsSpent l
 Sends f t (Some x) l = (l.receives ≡ false) × AtStage f t x l.stage
 
 -- what is kept of the credit of a link, and the link
 abbrev pub Agree : (ℕ → Option Credit) → HandleTable → Option SendingLink → Option PathLink → Type 0
 Agree f t o None = o ≡ None
-Agree f t o (Some l) = HasAsked f l.link l.name l.stage × Sends f t o l
+Agree f t o (Some l) = HasAsked f l.link l.name l.receives l.stage × Sends f t o l
 
 abbrev pub AllAgree : (ℕ → Option Credit) → LinksState → Type 0
 AllAgree f s = (n : ℕ) → Agree f s.handles (link_of s.sending n) (find (has_number n) s.links)
+
+-- ---- the role of a link
+
+pub some_is : (m n : ℕ) → Some m ≡ Some n → m ≡ n
+some_is m n e = cc
+
+role_at : (f : ℕ → Option Credit) (link name : ℕ) (role : Bool) (g : Stage) (h : ℕ) → handle_in g ≡ Some h → HasAsked f link name role g → role_in (f h) ≡ Some role
+role_at f link name role stage.Wanted h e i = absurd cc
+role_at f link name role (stage.Asked k) h e i = ap (λ (m : ℕ). role_in (f m)) (sym (some_is k h e)) ∙ ap role_in i
+role_at f link name role (stage.Open k) h e i = ap (λ (m : ℕ). role_in (f m)) (sym (some_is k h e)) ∙ i
+role_at f link name role (stage.Refused k) h e i = ap (λ (m : ℕ). role_in (f m)) (sym (some_is k h e)) ∙ i
+role_at f link name role (stage.Left k) h e i = ap (λ (m : ℕ). role_in (f m)) (sym (some_is k h e)) ∙ i
+role_at f link name role (stage.Given k) h e i = ap (λ (m : ℕ). role_in (f m)) (sym (some_is k h e)) ∙ i
+role_at f link name role (stage.Failed k fault) h e i = ap (λ (m : ℕ). role_in (f m)) (sym (some_is k h e)) ∙ i
+
+pub agree_role : (f : ℕ → Option Credit) (t : HandleTable) (o : Option SendingLink) (l : PathLink) (h : ℕ) → handle_in l.stage ≡ Some h → Agree f t o (Some l) → role_in (f h) ≡ Some l.receives
+agree_role f t o l h e i = role_at f l.link l.name l.receives l.stage h e i.0
+
+-- what keeps the role of each keeps that of the one that is found
+pub role_mapped : (c : Credit → Credit) → ((x : Credit) → (c x).receives ≡ x.receives) → (o : Option Credit) (role : Bool) → role_in o ≡ Some role → role_in (option_map c o) ≡ Some role
+role_mapped c same None role e = e
+role_mapped c same (Some x) role e = ap Some (same x) ∙ e
+
+pub answered_role : (name peer : ℕ) (c : Credit) → (answered name peer c).receives ≡ c.receives
+answered_role name peer c = by ((c.name == name) && not (is_some c.peer))
+  where
+    by : (b : Bool) → (cond b (record c { peer = Some peer }) c).receives ≡ c.receives
+    by true = refl
+    by false = refl
+
+pub flowed_role : (peer : ℕ) (count : Option ℕ) (credit : ℕ) (c : Credit) → (flowed peer count credit c).receives ≡ c.receives
+flowed_role peer count credit c = by (is_peer peer c.peer)
+  where
+    by : (b : Bool) → (cond b (record c { stated = or_initial count; credit = credit }) c).receives ≡ c.receives
+    by true = refl
+    by false = refl
+
+-- one that no end detached receives, where no credit is kept of it
+pub still_receives : (l : PathLink) → IsSpent l → is_parting l ≡ false → l.receives ≡ true
+still_receives l e off = by l.receives (is_parting l) e off
+  where
+    by : (r p : Bool) → (r || p) ≡ true → p ≡ false → r ≡ true
+    by true p f g = refl
+    by false p f g = absurd (no_clash p f g)
+
+pub spent_by_role : (x : PathLink) → x.receives ≡ true → IsSpent x
+spent_by_role x e = ap (λ (b : Bool). b || is_parting x) e
+
+pub spent_by_end : (x : PathLink) → is_parting x ≡ true → IsSpent x
+spent_by_end x e = by x.receives (is_parting x) e
+  where
+    by : (r p : Bool) → p ≡ true → (r || p) ≡ true
+    by true p f = refl
+    by false p f = f
 
 -- ---- the links that a change leaves
 
@@ -254,17 +318,18 @@ kept_on f g t u x h same k = record {
   number = k.number;
   count = k.count;
   low = k.low;
+  exact = k.exact;
 }
 
 -- so the link with it stays as it was
-asked_on : (f g : ℕ → Option Credit) (t u : HandleTable) (link name : ℕ) (s : Stage) → ((h : ℕ) → handle_in s ≡ Some h → Same f g t u h) → HasAsked f link name s → HasAsked g link name s
-asked_on f g t u link name stage.Wanted same i = i
-asked_on f g t u link name (stage.Asked h) same i = (same h refl).fold ∙ i
-asked_on f g t u link name (stage.Open h) same i = i
-asked_on f g t u link name (stage.Refused h) same i = i
-asked_on f g t u link name (stage.Left h) same i = i
-asked_on f g t u link name (stage.Given h) same i = i
-asked_on f g t u link name (stage.Failed h fault) same i = i
+asked_on : (f g : ℕ → Option Credit) (t u : HandleTable) (link name : ℕ) (role : Bool) (s : Stage) → ((h : ℕ) → handle_in s ≡ Some h → Same f g t u h) → HasAsked f link name role s → HasAsked g link name role s
+asked_on f g t u link name role stage.Wanted same i = i
+asked_on f g t u link name role (stage.Asked h) same i = (same h refl).fold ∙ i
+asked_on f g t u link name role (stage.Open h) same i = ap role_in (same h refl).fold ∙ i
+asked_on f g t u link name role (stage.Refused h) same i = ap role_in (same h refl).fold ∙ i
+asked_on f g t u link name role (stage.Left h) same i = ap role_in (same h refl).fold ∙ i
+asked_on f g t u link name role (stage.Given h) same i = ap role_in (same h refl).fold ∙ i
+asked_on f g t u link name role (stage.Failed h fault) same i = ap role_in (same h refl).fold ∙ i
 
 stage_on : (f g : ℕ → Option Credit) (t u : HandleTable) (x : SendingLink) (s : Stage) → ((h : ℕ) → handle_in s ≡ Some h → Same f g t u h) → AtStage f t x s → AtStage g u x s
 stage_on f g t u x stage.Wanted same i = i
@@ -278,8 +343,8 @@ stage_on f g t u x (stage.Failed h fault) same i = i
 pub agree_on : (f g : ℕ → Option Credit) (t u : HandleTable) (o : Option SendingLink) (p : Option PathLink)
     → ((l : PathLink) → p ≡ Some l → (h : ℕ) → handle_in l.stage ≡ Some h → Same f g t u h) → Agree f t o p → Agree g u o p
 agree_on f g t u o None same a = a
-agree_on f g t u None (Some l) same a = (asked_on f g t u l.link l.name l.stage (same l refl) a.0, tt)
-agree_on f g t u (Some x) (Some l) same a = (asked_on f g t u l.link l.name l.stage (same l refl) a.0, (a.1.0, stage_on f g t u x l.stage (same l refl) a.1.1))
+agree_on f g t u None (Some l) same a = (asked_on f g t u l.link l.name l.receives l.stage (same l refl) a.0, a.1)
+agree_on f g t u (Some x) (Some l) same a = (asked_on f g t u l.link l.name l.receives l.stage (same l refl) a.0, (a.1.0, stage_on f g t u x l.stage (same l refl) a.1.1))
 
 -- links that are found have one handle only if they are one
 pub apart : (p : PathLink → Bool) (n : ℕ) (s : LinksState) (l k : PathLink) → Tied s → find p s.links ≡ Some l → find (has_number n) s.links ≡ Some k → (l.link == n) ≡ false
@@ -345,7 +410,7 @@ received_agree f s t a n = by (free_number s.links == n) refl
         let none : find (has_number n) s.links ≡ None = subst (λ (m : ℕ). find (has_number m) s.links ≡ None) same (none_there k s.links (absent s.links t.rising)) in
         agree_as f s.handles None _ (Some (wanted_link k true)) _ (none_kept f s.handles _ _ none (a n))
         (subst (λ (m : ℕ). find (has_number m) (insert s.links k (wanted_link k true)) ≡ Some (wanted_link k true)) same (inserted_here k k true s.links (absent s.links t.rising)))
-        (tt, tt)
+        (tt, refl)
 
 -- what is found of those that stay was found before
 pub found_before : (stay : PathLink → Bool) (n : ℕ) (ls : List PathLink) (k : PathLink) → Rises 0 ls → find (has_number n) (filter stay ls) ≡ Some k → find (has_number n) ls ≡ Some k
@@ -458,12 +523,12 @@ module _ (f : ℕ → Option Credit) (a : AttachHeard) (s : LinksState) (l : Pat
   old : find (has_number l.link) s.links ≡ Some l
   old = found_number (is_asked_as a.name a.role) s.links l t.rising found
 
-  was_asked : f h ≡ Some (new_credit l.link l.name)
-  was_asked = subst (HasAsked f l.link l.name) staged (of_link (link_of s.sending l.link) (find (has_number l.link) s.links) old (all l.link))
+  was_asked : f h ≡ Some (new_credit l.link l.name l.receives)
+  was_asked = subst (HasAsked f l.link l.name l.receives) staged (of_link (link_of s.sending l.link) (find (has_number l.link) s.links) old (all l.link))
     where
-      of_link : (o : Option SendingLink) (p : Option PathLink) → p ≡ Some l → Agree f s.handles o p → HasAsked f l.link l.name l.stage
+      of_link : (o : Option SendingLink) (p : Option PathLink) → p ≡ Some l → Agree f s.handles o p → HasAsked f l.link l.name l.receives l.stage
       of_link o None e i = absurd cc
-      of_link o (Some k) e i = subst (λ (x : PathLink). HasAsked f x.link x.name x.stage) (let same : k ≡ l = cc in same) i.0
+      of_link o (Some k) e i = subst (λ (x : PathLink). HasAsked f x.link x.name x.receives x.stage) (let same : k ≡ l = cc in same) i.0
 
   unnamed : (k : ℕ) → is_named a.peer (state_of s.handles k) ≡ true → ⊥
   unnamed k is = none_named s.handles a.peer unused k is
@@ -477,17 +542,17 @@ module _ (f : ℕ → Option Credit) (a : AttachHeard) (s : LinksState) (l : Pat
   names_other j peer ne is =
       named_stays s.handles h _ peer j ne (λ e. absurd (unnamed j (subst (λ (p : ℕ). is_named p (state_of s.handles j) ≡ true) (sym (eq_of a.peer peer e)) is.here))) is
 
-  asked_other : (link name : ℕ) (g' : Stage) → ((j : ℕ) → handle_in g' ≡ Some j → (h == j) ≡ false) → HasAsked f link name g' → HasAsked g link name g'
-  asked_other link name stage.Wanted ne i = i
-  asked_other link name (stage.Asked j) ne i =
+  asked_other : (link name : ℕ) (role : Bool) (g' : Stage) → ((j : ℕ) → handle_in g' ≡ Some j → (h == j) ≡ false) → HasAsked f link name role g' → HasAsked g link name role g'
+  asked_other link name role stage.Wanted ne i = i
+  asked_other link name role (stage.Asked j) ne i =
       ap (option_map (answered a.name a.peer)) i
-      ∙ ap Some (answered_other a.name a.peer (new_credit link name)
-      (ne_to name a.name (λ same. no_clash (h == j) (eq_to h j (distinct h j (new_credit l.link l.name) (new_credit link name) was_asked i (name_is ∙ sym same))) (ne j refl))))
-  asked_other link name (stage.Open j) ne i = i
-  asked_other link name (stage.Refused j) ne i = i
-  asked_other link name (stage.Left j) ne i = i
-  asked_other link name (stage.Given j) ne i = i
-  asked_other link name (stage.Failed j fault) ne i = i
+      ∙ ap Some (answered_other a.name a.peer (new_credit link name role)
+      (ne_to name a.name (λ same. no_clash (h == j) (eq_to h j (distinct h j (new_credit l.link l.name l.receives) (new_credit link name role) was_asked i (name_is ∙ sym same))) (ne j refl))))
+  asked_other link name role (stage.Open j) ne i = role_mapped (answered a.name a.peer) (answered_role a.name a.peer) (f j) role i
+  asked_other link name role (stage.Refused j) ne i = role_mapped (answered a.name a.peer) (answered_role a.name a.peer) (f j) role i
+  asked_other link name role (stage.Left j) ne i = role_mapped (answered a.name a.peer) (answered_role a.name a.peer) (f j) role i
+  asked_other link name role (stage.Given j) ne i = role_mapped (answered a.name a.peer) (answered_role a.name a.peer) (f j) role i
+  asked_other link name role (stage.Failed j fault) ne i = role_mapped (answered a.name a.peer) (answered_role a.name a.peer) (f j) role i
 
   kept_other : (j : ℕ) (x : SendingLink) → (h == j) ≡ false → IsKept f s.handles x j → IsKept g u x j
   kept_other j x ne k = record {
@@ -499,6 +564,7 @@ module _ (f : ℕ → Option Credit) (a : AttachHeard) (s : LinksState) (l : Pat
     number = k.number;
     count = k.count;
     low = k.low;
+    exact = k.exact;
   }
 
   stage_other : (x : SendingLink) (g' : Stage) → ((j : ℕ) → handle_in g' ≡ Some j → (h == j) ≡ false) → AtStage f s.handles x g' → AtStage g u x g'
@@ -513,8 +579,8 @@ module _ (f : ℕ → Option Credit) (a : AttachHeard) (s : LinksState) (l : Pat
   agree_other : (o : Option SendingLink) (p : Option PathLink) → ((k : PathLink) → p ≡ Some k → (j : ℕ) → handle_in k.stage ≡ Some j → (h == j) ≡ false)
       → Agree f s.handles o p → Agree g u o p
   agree_other o None ne i = i
-  agree_other None (Some k) ne i = (asked_other k.link k.name k.stage (ne k refl) i.0, tt)
-  agree_other (Some x) (Some k) ne i = (asked_other k.link k.name k.stage (ne k refl) i.0, (i.1.0, stage_other x k.stage (ne k refl) i.1.1))
+  agree_other None (Some k) ne i = (asked_other k.link k.name k.receives k.stage (ne k refl) i.0, i.1)
+  agree_other (Some x) (Some k) ne i = (asked_other k.link k.name k.receives k.stage (ne k refl) i.0, (i.1.0, stage_other x k.stage (ne k refl) i.1.1))
 
   -- the link itself
   named_now : IsNamed u a.peer h
@@ -529,25 +595,33 @@ module _ (f : ℕ → Option Credit) (a : AttachHeard) (s : LinksState) (l : Pat
 
   kept_now : (x : SendingLink) → x.link ≡ l.link → x.state ≡ new_link → IsKept g u x h
   kept_now x number e = record {
-    credit = record (new_credit l.link l.name) { peer = Some a.peer };
+    credit = record (new_credit l.link l.name l.receives) { peer = Some a.peer };
     is = ap (option_map (answered a.name a.peer)) was_asked
-        ∙ ap (λ (b : Bool). Some (cond (b && true) (record (new_credit l.link l.name) { peer = Some a.peer }) (new_credit l.link l.name))) (eq_to l.name a.name name_is);
+        ∙ ap (λ (b : Bool). Some (cond (b && true) (record (new_credit l.link l.name l.receives) { peer = Some a.peer }) (new_credit l.link l.name l.receives))) (eq_to l.name a.name name_is);
     peer = a.peer;
     answers = refl;
     names = named_now;
     number = sym number;
     count = ap (λ (y : Sending). y.count) e;
-    low = subst (λ (y : Sending). y.credit ≤ left (record (new_credit l.link l.name) { peer = Some a.peer })) (sym e) (omega arith);
+    low = subst (λ (y : Sending). y.credit ≤ left (record (new_credit l.link l.name l.receives) { peer = Some a.peer })) (sym e) (omega arith);
+    exact = λ uint. subst (λ (y : Sending). y.credit ≡ left (record (new_credit l.link l.name l.receives) { peer = Some a.peer })) (sym e) (omega arith);
   }
 
   new_state : (x : SendingLink) → AtStage f s.handles x l.stage → x.state ≡ new_link
   new_state x i = (subst (AtStage f s.handles x) staged i).1
 
+  role_now : role_in (g h) ≡ Some l.receives
+  role_now = role_mapped (answered a.name a.peer) (answered_role a.name a.peer) (f h) l.receives (ap role_in was_asked)
+
+  -- it was to be neither detached nor failed
+  spent_now : (x : PathLink) → x.receives ≡ l.receives → IsSpent l → IsSpent x
+  spent_now x same e = spent_by_role x (same ∙ still_receives l e (ap (λ (q : Stage). (is_stage_left q || is_stage_failed q) || is_stage_given q) staged))
+
   agree_here : (there : Bool) (o : Option SendingLink) → ((x : SendingLink) → o ≡ Some x → x.link ≡ l.link) → Agree f s.handles o (Some l) → Agree g u (cond there (option_map (now_attached l.link) o) o) (Some (answered_link there l))
-  agree_here true None number i = (tt, tt)
-  agree_here false None number i = (tt, tt)
-  agree_here true (Some x) number i = (tt, (i.1.0, kept_now (now_attached l.link x) (number x refl) (new_state x i.1.1)))
-  agree_here false (Some x) number i = (tt, (i.1.0, kept_now x (number x refl) (new_state x i.1.1)))
+  agree_here true None number i = (role_now, spent_now (answered_link true l) refl i.1)
+  agree_here false None number i = (role_now, spent_now (answered_link false l) refl i.1)
+  agree_here true (Some x) number i = (role_now, (i.1.0, kept_now (now_attached l.link x) (number x refl) (new_state x i.1.1)))
+  agree_here false (Some x) number i = (role_now, (i.1.0, kept_now x (number x refl) (new_state x i.1.1)))
 
   attached_number : (there : Bool) (n : ℕ) (xs : List SendingLink) → (l.link == n) ≡ false → link_of (attached_if there l.link xs) n ≡ link_of xs n
   attached_number false n xs ne = refl
@@ -590,9 +664,6 @@ is_at_handle h (stage.Failed k fault) e = ap Some (eq_of k h e)
 some_link : (l k : PathLink) → Some l ≡ Some k → l ≡ k
 some_link l k e = cc
 
-pub some_is : (m n : ℕ) → Some m ≡ Some n → m ≡ n
-some_is m n e = cc
-
 peer_same : (peer p : ℕ) (c : Credit) → c.peer ≡ Some p → is_peer peer c.peer ≡ (p == peer)
 peer_same peer p c e = ap (is_peer peer) e
 
@@ -600,14 +671,14 @@ module _ (f : ℕ → Option Credit) (peer : ℕ) (count : Option ℕ) (credit :
   abbrev flow_fold : ℕ → Option Credit
   flow_fold k = option_map (flowed peer count credit) (f k)
 
-  flow_new : (link name : ℕ) (g : Stage) → HasAsked f link name g → HasAsked flow_fold link name g
-  flow_new link name stage.Wanted i = i
-  flow_new link name (stage.Asked j) i = ap (option_map (flowed peer count credit)) i
-  flow_new link name (stage.Open j) i = i
-  flow_new link name (stage.Refused j) i = i
-  flow_new link name (stage.Left j) i = i
-  flow_new link name (stage.Given j) i = i
-  flow_new link name (stage.Failed j fault) i = i
+  flow_new : (link name : ℕ) (role : Bool) (g : Stage) → HasAsked f link name role g → HasAsked flow_fold link name role g
+  flow_new link name role stage.Wanted i = i
+  flow_new link name role (stage.Asked j) i = ap (option_map (flowed peer count credit)) i
+  flow_new link name role (stage.Open j) i = role_mapped (flowed peer count credit) (flowed_role peer count credit) (f j) role i
+  flow_new link name role (stage.Refused j) i = role_mapped (flowed peer count credit) (flowed_role peer count credit) (f j) role i
+  flow_new link name role (stage.Left j) i = role_mapped (flowed peer count credit) (flowed_role peer count credit) (f j) role i
+  flow_new link name role (stage.Given j) i = role_mapped (flowed peer count credit) (flowed_role peer count credit) (f j) role i
+  flow_new link name role (stage.Failed j fault) i = role_mapped (flowed peer count credit) (flowed_role peer count credit) (f j) role i
 
   -- on another link of the container
   kept_apart : (j : ℕ) (x : SendingLink) → ((p : ℕ) → IsNamed s.handles p j → (p == peer) ≡ false) → IsKept f s.handles x j → IsKept flow_fold s.handles x j
@@ -621,6 +692,7 @@ module _ (f : ℕ → Option Credit) (peer : ℕ) (count : Option ℕ) (credit :
     number = k.number;
     count = k.count;
     low = k.low;
+    exact = k.exact;
   }
 
   stage_apart : (x : SendingLink) (g : Stage) → ((j p : ℕ) → is_stage_at j g ≡ true → IsNamed s.handles p j → (p == peer) ≡ false) → AtStage f s.handles x g → AtStage flow_fold s.handles x g
@@ -635,8 +707,8 @@ module _ (f : ℕ → Option Credit) (peer : ℕ) (count : Option ℕ) (credit :
   agree_apart : (o : Option SendingLink) (p : Option PathLink) → ((k : PathLink) → p ≡ Some k → k.receives ≡ false → (j q : ℕ) → is_stage_at j k.stage ≡ true → IsNamed s.handles q j → (q == peer) ≡ false)
       → Agree f s.handles o p → Agree flow_fold s.handles o p
   agree_apart o None ne i = i
-  agree_apart None (Some k) ne i = (flow_new k.link k.name k.stage i.0, tt)
-  agree_apart (Some x) (Some k) ne i = (flow_new k.link k.name k.stage i.0, (i.1.0, stage_apart x k.stage (ne k refl i.1.0) i.1.1))
+  agree_apart None (Some k) ne i = (flow_new k.link k.name k.receives k.stage i.0, i.1)
+  agree_apart (Some x) (Some k) ne i = (flow_new k.link k.name k.receives k.stage i.0, (i.1.0, stage_apart x k.stage (ne k refl i.1.0) i.1.1))
 
   -- none is named
   unnamed_agree : named_by s.handles peer ≡ None → AllAgree flow_fold s
@@ -679,6 +751,7 @@ module _ (f : ℕ → Option Credit) (peer : ℕ) (count : Option ℕ) (credit :
         number = k.number;
         count = k.count;
         low = subst (λ (m : ℕ). left_of (or_initial count) credit x.state.count ≤ left_of (or_initial count) credit m) k.count (omega arith);
+        exact = λ uint. ap (left_of (or_initial count) credit) k.count;
       }
 
       stage_flowed : (x : SendingLink) (g : Stage) → ((j : ℕ) → handle_in g ≡ Some j → h ≡ j) → is_stage_at h g ≡ true → AtStage f s.handles x g
@@ -692,9 +765,9 @@ module _ (f : ℕ → Option Credit) (peer : ℕ) (count : Option ℕ) (credit :
       stage_flowed x (stage.Failed j fault) same at i = i
 
       agree_flowed : (o : Option SendingLink) → Agree f s.handles o (Some l) → Agree flow_fold s.handles (option_map with_flow o) (Some (told_by drain echo l))
-      agree_flowed None i = (flow_new l.link l.name l.stage i.0, tt)
+      agree_flowed None i = (flow_new l.link l.name l.receives l.stage i.0, i.1)
       agree_flowed (Some x) i =
-          (flow_new l.link l.name l.stage i.0, (i.1.0, stage_flowed x l.stage (λ j has. some_is h j (sym own_handle ∙ has)) (found_passes (is_at h) s.links l found) i.1.1))
+          (flow_new l.link l.name l.receives l.stage i.0, (i.1.0, stage_flowed x l.stage (λ j has. some_is h j (sym own_handle ∙ has)) (found_passes (is_at h) s.links l found) i.1.1))
 
       flowed_own : (n : ℕ) → l.link ≡ n → link_of (map (flowed_link l.link count credit) s.sending) n ≡ option_map with_flow (link_of s.sending n)
       flowed_own n same = mapped_here n (flowed_link l.link count credit) (λ x. refl) s.sending ∙ by (link_of s.sending n) refl
@@ -855,8 +928,8 @@ module _ (f : ℕ → Option Credit) (s : LinksState) (l : PathLink) (p : PathLi
 
   -- another takes its place
   placed_agree : (x : PathLink) (st : HandleState) → handle_in l.stage ≡ Some hand → ((peer : ℕ) → is_named peer st ≡ true → is_named peer (state_of s.handles hand) ≡ true)
-      → x.link ≡ l.link → HasAsked f x.link x.name x.stage → AllAgree f (record s { sending = without l.link s.sending; links = put x s.links; handles = with_state hand st s.handles })
-  placed_agree x st has less number new n = by (l.link == n) refl
+      → x.link ≡ l.link → HasAsked f x.link x.name x.receives x.stage → IsSpent x → AllAgree f (record s { sending = without l.link s.sending; links = put x s.links; handles = with_state hand st s.handles })
+  placed_agree x st has less number new spent n = by (l.link == n) refl
     where
       by : (b : Bool) → (l.link == n) ≡ b → Agree f (with_state hand st s.handles) (link_of (without l.link s.sending) n) (find (has_number n) (put x s.links))
       by false ne =
@@ -864,7 +937,11 @@ module _ (f : ℕ → Option Credit) (s : LinksState) (l : PathLink) (p : PathLi
       by true e =
           let same : l.link ≡ n = eq_of l.link n e in
           agree_as f (with_state hand st s.handles) None _ (Some x) _ (subst (λ (m : ℕ). link_of (without l.link s.sending) m ≡ None) same (without_here l.link s.sending))
-          (placed_here n x l s.links (number ∙ same) (subst (λ (m : ℕ). find (has_number m) s.links ≡ Some l) same own)) (new, tt)
+          (placed_here n x l s.links (number ∙ same) (subst (λ (m : ℕ). find (has_number m) s.links ≡ Some l) same own)) (new, spent)
+
+  -- in the role in which it was attached
+  role_own : handle_in l.stage ≡ Some hand → role_in (f hand) ≡ Some l.receives
+  role_own has = agree_role f s.handles (link_of s.sending l.link) l hand has (subst (Agree f s.handles (link_of s.sending l.link)) own (all l.link))
 
   -- the container's detach
   detached_agree : handle_in l.stage ≡ Some hand → AllAgree f (detached_on (Some l) s)
@@ -872,7 +949,7 @@ module _ (f : ℕ → Option Credit) (s : LinksState) (l : PathLink) (p : PathLi
     where
       by : (b : Bool) → AllAgree f (record { sending = without l.link s.sending; links = cond b (dropped l.link s.links) (put (left_by l) s.links); handles = with_state hand (with_read (state_of s.handles hand)) s.handles })
       by true = dropped_agree (without l.link s.sending) (with_read (state_of s.handles hand)) without_it has (λ peer is. read_named (state_of s.handles hand) peer is)
-      by false = placed_agree (left_by l) (with_read (state_of s.handles hand)) has (λ peer is. read_named (state_of s.handles hand) peer is) refl tt
+      by false = placed_agree (left_by l) (with_read (state_of s.handles hand)) has (λ peer is. read_named (state_of s.handles hand) peer is) refl (role_own has) (spent_by_end (left_by l) refl)
 
   -- the gateway's, of a link that the container detached or of another
   none_of_left : is_left l ≡ true → link_of s.sending l.link ≡ None
@@ -897,14 +974,14 @@ module _ (f : ℕ → Option Credit) (s : LinksState) (l : PathLink) (p : PathLi
       (dropped_agree s.sending (with_sent (state_of s.handles hand)) (record { other = λ n ne. refl; none = none_of_left left_is }) (left_handle l.stage left_is) (λ peer is. sent_named (state_of s.handles hand) peer is))
 
   given_agree : (is_stage_open l.stage || is_stage_failed l.stage) ≡ true → AllAgree f (given_on (Some l) s)
-  given_agree up = placed_agree (given_by l) (with_sent (state_of s.handles hand)) (up_handle l.stage up) (λ peer is. sent_named (state_of s.handles hand) peer is) refl tt
+  given_agree up = placed_agree (given_by l) (with_sent (state_of s.handles hand)) (up_handle l.stage up) (λ peer is. sent_named (state_of s.handles hand) peer is) refl (role_own (up_handle l.stage up)) (spent_by_end (given_by l) refl)
 
   -- a transfer on a receiving link fails
-  failed_agree : (fault : TransferFault) → l.receives ≡ true → AllAgree f (record s { links = put (failed_by fault l) s.links })
-  failed_agree fault role n = by (l.link == n) refl
+  failed_agree : (fault : TransferFault) → l.receives ≡ true → handle_in l.stage ≡ Some hand → AllAgree f (record s { links = put (failed_by fault l) s.links })
+  failed_agree fault role has n = by (l.link == n) refl
     where
       mine : (o : Option SendingLink) → Agree f s.handles o (Some l) → Agree f s.handles o (Some (failed_by fault l))
-      mine None i = (tt, tt)
+      mine None i = (role_own has, spent_by_role (failed_by fault l) role)
       mine (Some x) i = absurd (no_clash l.receives role i.1.0)
 
       by : (b : Bool) → (l.link == n) ≡ b → Agree f s.handles (link_of s.sending n) (find (has_number n) (put (failed_by fault l) s.links))
@@ -942,7 +1019,9 @@ failed_at f fault s h None t a e = a
 failed_at f fault s h (Some l) t a e = by (is_stage_whole l.stage && l.receives) refl
   where
     by : (b : Bool) → (is_stage_whole l.stage && l.receives) ≡ b → AllAgree f (cond b (record s { links = put (failed_by fault l) s.links }) s)
-    by true is = failed_agree f s l (is_at h) t a e fault (and_right (is_stage_whole l.stage) l.receives is)
+    by true is =
+        failed_agree f s l (is_at h) t a e fault (and_right (is_stage_whole l.stage) l.receives is)
+        (has_handle l.stage h (is_at_handle h l.stage (found_passes (is_at h) s.links l e)))
     by false is = a
 
 pub link_failed_agree : (f : ℕ → Option Credit) (peer : ℕ) (fault : TransferFault) (s : LinksState) → Tied s → AllAgree f s → AllAgree f (link_failed peer fault s)

@@ -1,6 +1,6 @@
 -- What an event of a path leaves of the credit of its links, by the fold.
-use Rattle.std.proofs.Common.{◌≡◌, ◌∙◌, ℕ, List, [], ◌∷◌, ◌++◌, Bool, true, false}
-use Rattle.std.proofs.Common.{if◌then◌else◌, Option, Some, None, refl, sym, subst, ap, cond, map}
+use Rattle.std.proofs.Common.{◌≡◌, ℕ, List, [], ◌∷◌, ◌++◌, Bool, true, false}
+use Rattle.std.proofs.Common.{if◌then◌else◌, Option, Some, None, refl, sym, subst, cond, map}
 use Rattle.std.specs.Prelude.{find, is_some, IfSome}
 use Rattle.std.specs.List.{AllByRecursion}
 use Rattle.open_items.proofs.Filtered.{all_find}
@@ -12,7 +12,7 @@ use Rattle.consume_path.specs.declared.receiving.NextGrant.{NextGrant}
 use Rattle.session_path.specs.Due.{attach_of, due_in, grant_due, next_attach, next_flow}
 use Rattle.session_path.specs.Events as event
 use Rattle.session_path.specs.Events.{PathEvent, after_event, after_events}
-use Rattle.session_path.specs.Links.{LinksState, asked_by, asked_on, attach_fault, attached, attached_as, flowed_on, handle_at, has_number, is_asked_as}
+use Rattle.session_path.specs.Links.{LinksState, asked_by, asked_on, attach_fault, attached, attached_as, handle_at, has_number, is_asked_as}
 use Rattle.session_path.specs.Links.{is_stage_wanted, is_wanted, limited, named, parted, told_on}
 use Rattle.session_path.specs.Path.{PathState, detaching_of, flow_of, get_link, grant_in, granting, is_grant_next, owes_flow, queue_or, receiver_in, taking}
 use Rattle.session_path.specs.declared.path.AttachDue.{AttachDue}
@@ -23,7 +23,7 @@ use Rattle.session_path.specs.declared.path.PathLink.{PathLink}
 use Rattle.session_path.proofs.Fresh.{AreFresh, IsFresh}
 use Rattle.session_path.proofs.Idle.{detaching_there}
 use Rattle.session_path.proofs.SameLinks.{attach_same, disposed_same, dropped_same, flow_sent_same}
-use Rattle.session_path.proofs.SameLinks.{flowed_if, flowed_same, got_links, got_same, transfer_same}
+use Rattle.session_path.proofs.SameLinks.{flowed_same, got_links, got_same, transfer_same}
 use Rattle.session_path.proofs.Tied.{Tied, tied_after}
 use Rattle.session_path.proofs.Ties.{found_passes}
 use Rattle.gate_model.specs.LinkCredits.{Answered, Asked, Begun, Credit, Flowed, LinkStep, Told, after_step, credit_by}
@@ -106,19 +106,21 @@ module _ (f : ℕ → Option Credit) where
   -- ---- what the gateway sends
 
   pub attach_sent_agree : (name : ℕ) (a : AttachDue) (s : PathState) → Tied s.links → next_attach s ≡ Some a → AllAgree f s.links
-      → AllAgree (folded (Asked a.link a.handle name ∷ []) f) (after_event (event.AttachSent name) s).links
+      → AllAgree (folded (Asked a.link a.handle name a.receives ∷ []) f) (after_event (event.AttachSent name) s).links
   attach_sent_agree name a s t due all = by (find is_wanted s.links.links) refl (free_of s.links.handles) refl due
     where
       by : (o : Option PathLink) → find is_wanted s.links.links ≡ o → (q : Option ℕ) → free_of s.links.handles ≡ q → attach_of o q ≡ Some a
-          → AllAgree (folded (Asked a.link a.handle name ∷ []) f) (asked_on o q name s.links)
+          → AllAgree (folded (Asked a.link a.handle name a.receives ∷ []) f) (asked_on o q name s.links)
       by None e q g i = absurd cc
       by (Some l) e None g i = absurd cc
       by (Some l) e (Some h) g i =
           let link : l.link ≡ a.link = cc in
           let handle : h ≡ a.handle = cc in
-          subst (λ (k : ℕ). AllAgree (folded (Asked k a.handle name ∷ []) f) (asked_on (Some l) (Some h) name s.links)) link
-          (subst (λ (k : ℕ). AllAgree (folded (Asked l.link k name ∷ []) f) (asked_on (Some l) (Some h) name s.links)) handle
-          (asked_agree f s.links l h name t all e g))
+          let role : l.receives ≡ a.receives = cc in
+          subst (λ (k : ℕ). AllAgree (folded (Asked k a.handle name a.receives ∷ []) f) (asked_on (Some l) (Some h) name s.links)) link
+          (subst (λ (k : ℕ). AllAgree (folded (Asked l.link k name a.receives ∷ []) f) (asked_on (Some l) (Some h) name s.links)) handle
+          (subst (λ (b : Bool). AllAgree (folded (Asked l.link h name b ∷ []) f) (asked_on (Some l) (Some h) name s.links)) role
+          (asked_agree f s.links l h name t all e g)))
 
   abbrev After : FlowDue → LinksState → Type 0
   After d z = AllAgree (folded (Told d.link d.handle (count_of d) ∷ []) f) z

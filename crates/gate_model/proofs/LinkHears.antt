@@ -256,19 +256,19 @@ module _ (xs : List LinkStep) where
 -- ---- the gateway's attach
 
 module _ (xs : List LinkStep) (s : LinksState) (a : AllHear xs s) where
-  pub asked_hear : (l : PathLink) (h name : ℕ) → IsNewName name xs → AllHear (Asked l.link h name ∷ xs) (asked_on (Some l) (Some h) name s)
-  asked_hear l h name new = all_map (put_for (asked_link_as h name l)) (IsHeard xs s.handles) (IsHeard ys u) (λ k is. one k (k.link == l.link) is) s.links a
+  pub asked_hear : (l : PathLink) (h name : ℕ) (role : Bool) → IsNewName name xs → AllHear (Asked l.link h name role ∷ xs) (asked_on (Some l) (Some h) name s)
+  asked_hear l h name role new = all_map (put_for (asked_link_as h name l)) (IsHeard xs s.handles) (IsHeard ys u) (λ k is. one k (k.link == l.link) is) s.links a
     where
       ys : List LinkStep
-      ys = Asked l.link h name ∷ xs
+      ys = Asked l.link h name role ∷ xs
 
       u : HandleTable
       u = after_attach h s.handles
 
-      one : (k : PathLink) (b : Bool) → IsHeard xs s.handles k → IsHeard (Asked l.link h name ∷ xs) (after_attach h s.handles) (cond b (asked_link_as h name l) k)
+      one : (k : PathLink) (b : Bool) → IsHeard xs s.handles k → IsHeard (Asked l.link h name role ∷ xs) (after_attach h s.handles) (cond b (asked_link_as h name l) k)
       one k true is = ap (λ (b : Bool). if b then Some l.link else asked_as name xs) (eq_to name name refl)
       one k false is =
-          moved xs (Asked l.link h name ∷ xs) s.handles (after_attach h s.handles) k.link k.name k.stage
+          moved xs (Asked l.link h name role ∷ xs) s.handles (after_attach h s.handles) k.link k.name k.stage
           (λ g e. ap (λ (b : Bool). if b then Some l.link else asked_as k.name xs) (new k.name k.link e) ∙ e)
           (λ j p has g e. (named_before s.handles h state.Asked (λ p i. absurd cc) j p e, refl)) is
 
@@ -406,17 +406,17 @@ attach_came xs a s t fine all =
     by None e (Some l) g i = came_hear xs a s.links l t all e g
 
 attach_went : (xs : List LinkStep) (name : ℕ) (a : AttachDue) (s : PathState) → IsNewName name xs → next_attach s ≡ Some a → AllHear xs s.links
-    → AllHear (Asked a.link a.handle name ∷ xs) (after_event (event.AttachSent name) s).links
+    → AllHear (Asked a.link a.handle name a.receives ∷ xs) (after_event (event.AttachSent name) s).links
 attach_went xs name a s new due all = by (find is_wanted s.links.links) (free_of s.links.handles) due
   where
-    by : (o : Option PathLink) (q : Option ℕ) → attach_of o q ≡ Some a → AllHear (Asked a.link a.handle name ∷ xs) (asked_on o q name s.links)
+    by : (o : Option PathLink) (q : Option ℕ) → attach_of o q ≡ Some a → AllHear (Asked a.link a.handle name a.receives ∷ xs) (asked_on o q name s.links)
     by None q i = absurd cc
     by (Some l) None i = absurd cc
     by (Some l) (Some h) i =
         let link : l.link ≡ a.link = cc in
         let handle : h ≡ a.handle = cc in
-        subst (λ (k : ℕ). AllHear (Asked k a.handle name ∷ xs) (asked_on (Some l) (Some h) name s.links)) link
-        (subst (λ (k : ℕ). AllHear (Asked l.link k name ∷ xs) (asked_on (Some l) (Some h) name s.links)) handle (asked_hear xs s.links all l h name new))
+        subst (λ (k : ℕ). AllHear (Asked k a.handle name a.receives ∷ xs) (asked_on (Some l) (Some h) name s.links)) link
+        (subst (λ (k : ℕ). AllHear (Asked l.link k name a.receives ∷ xs) (asked_on (Some l) (Some h) name s.links)) handle (asked_hear xs s.links all l h name a.receives new))
 
 pub hear_rules : Rules AllHear
 hear_rules = record {

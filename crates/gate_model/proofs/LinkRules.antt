@@ -8,7 +8,7 @@ use Rattle.publish_path.specs.declared.publish.NextFrame.{NextFrame}
 use Rattle.session_path.specs.Due.{next_attach, next_flow}
 use Rattle.session_path.specs.Events as event
 use Rattle.session_path.specs.Events.{PathEvent, after_event, after_events}
-use Rattle.session_path.specs.Links.{LinksState, attach_fault, handle_at, has_number, named}
+use Rattle.session_path.specs.Links.{LinksState, attach_fault, handle_at, has_number}
 use Rattle.session_path.specs.Path.{PathState, granting}
 use Rattle.session_path.specs.declared.path.AttachDue.{AttachDue}
 use Rattle.session_path.specs.declared.path.AttachHeard.{AttachHeard}
@@ -45,7 +45,7 @@ pub record Rules (P : List LinkStep → LinksState → Type 0) : Type 0 where
   pub flow_came : (xs : List LinkStep) (peer : ℕ) (count : Option ℕ) (credit : ℕ) (drain echo : Bool) (s : PathState) → Tied s.links → P xs s.links
       → P (Flowed peer count credit ∷ xs) (after_event (event.FlowCame peer count credit drain echo) s).links
   pub attach_sent : (xs : List LinkStep) (name : ℕ) (a : AttachDue) (s : PathState) → Tied s.links → IsNewName name xs → next_attach s ≡ Some a → P xs s.links
-      → P (Asked a.link a.handle name ∷ xs) (after_event (event.AttachSent name) s).links
+      → P (Asked a.link a.handle name a.receives ∷ xs) (after_event (event.AttachSent name) s).links
   pub flow_sent : (xs : List LinkStep) (d : FlowDue) (s : PathState) → Tied s.links → AreFresh s.links
       → ((l k : PathLink) → granting s ≡ Some l → find (has_number l.link) s.links.links ≡ Some k → k.receives ≡ true) → next_flow s ≡ Some d → P xs s.links
       → P (Told d.link d.handle (count_of d) ∷ xs) (after_event event.LinkFlowSent s).links

@@ -1,7 +1,7 @@
 -- What the gateway sends on links keeps their credit to the fold: attaches, flows, and first frames of transfers.
-use Rattle.std.proofs.Common.{◌≡◌, ◌∙◌, ℕ, ◌+◌, ◌%◌, ◌^◌, ◌≤◌, ◌<◌, length, Bool, true, false}
+use Rattle.std.proofs.Common.{◌≡◌, ◌∙◌, ℕ, ◌+◌, ◌-◌, ◌%◌, ◌^◌, ◌≤◌, ◌<◌, length, Bool, true, false}
 use Rattle.std.proofs.Common.{Option, Some, None, refl, sym, subst, ap, arith, cond, map}
-use Rattle.std.specs.Prelude.{find, is_some, nat_le, position, ◌==◌, ◌&&◌}
+use Rattle.std.specs.Prelude.{find, is_some, nat_le, position, ◌==◌, ◌&&◌, ◌||◌}
 use Rattle.std.specs.Option.{option_map}
 use Rattle.std.proofs.lemmas.Bool.Decides.{nat_tests}
 use Rattle.std.proofs.lemmas.List.Quantifiers.{position-Some}
@@ -19,12 +19,13 @@ use Rattle.session_path.specs.declared.path.Stage.{Stage}
 use Rattle.session_path.specs.declared.path.Stage.TheVariants as stage
 use Rattle.session_path.specs.Due.{count_in}
 use Rattle.session_path.specs.Links.{LinksState, asked_as, asked_on, drained_if, handle_at, handle_in, handle_in_link, handle_of, has_number}
-use Rattle.session_path.specs.Links.{is_given_back, is_half, is_stage_wanted, is_wanted, is_whole, put, stands, told_on, told_once}
+use Rattle.session_path.specs.Links.{is_given_back, is_half, is_parting, is_stage_failed, is_stage_given, is_stage_left, is_stage_wanted, is_wanted, is_whole, put, stands, told_on, told_once}
 use Rattle.session_path.specs.Path.{credit_in}
 use Rattle.session_path.proofs.Tied.{Tied}
 use Rattle.session_path.proofs.Ties.{and_left, and_right, eq_of, eq_to, found_number, found_passes, ne_to, no_clash}
 use Rattle.gate_model.specs.LinkCredits.{Credit, begun, left, new_credit, told}
 use Rattle.gate_model.proofs.LinkCredits.{Agree, AllAgree, AtStage, HasAsked, IsKept, agree_as, agree_on, apart, found_sender}
+use Rattle.gate_model.proofs.LinkCredits.{role_in, role_mapped, spent_by_role, still_receives}
 use Rattle.gate_model.proofs.LinkCredits.{mapped_here, mapped_other, named_stays, placed_here, placed_other, some_is}
 
 -- ---- attaches
@@ -72,7 +73,7 @@ wanted_stage (stage.Failed h fault) e = absurd cc
 
 module _ (f : ℕ → Option Credit) (s : LinksState) (l : PathLink) (h name : ℕ) (t : Tied s) (all : AllAgree f s) (found : find is_wanted s.links ≡ Some l) (free : free_of s.handles ≡ Some h) where
   abbrev asked_fold : ℕ → Option Credit
-  asked_fold k = cond (h == k) (Some (new_credit l.link name)) (f k)
+  asked_fold k = cond (h == k) (Some (new_credit l.link name l.receives)) (f k)
 
   abbrev asked_table : HandleTable
   asked_table = with_state h state.Asked s.handles
@@ -82,10 +83,13 @@ module _ (f : ℕ → Option Credit) (s : LinksState) (l : PathLink) (h name : �
       let off : is_free (state_of s.handles j) ≡ false = held s.handles k.stage j (all_find (λ x. stands s.handles x.stage ≡ true) (has_number n) s.links k t.standing is).0 has in
       ne_to h j (λ same. no_clash (is_free (state_of s.handles j)) (subst (λ (m : ℕ). is_free (state_of s.handles m) ≡ true) same (free_at s.handles h free).1) off)
 
+  wanted_stays : is_parting l ≡ false
+  wanted_stays = ap (λ (q : Stage). (is_stage_left q || is_stage_failed q) || is_stage_given q) (wanted_stage l.stage (found_passes is_wanted s.links l found))
+
   agree_asked : (o : Option SendingLink) → Agree f s.handles o (Some l) → Agree asked_fold asked_table o (Some (asked_as h name l))
-  agree_asked None i = (ap (λ (b : Bool). cond b (Some (new_credit l.link name)) (f h)) (eq_to h h refl), tt)
+  agree_asked None i = (ap (λ (b : Bool). cond b (Some (new_credit l.link name l.receives)) (f h)) (eq_to h h refl), spent_by_role (asked_as h name l) (still_receives l i.1 wanted_stays))
   agree_asked (Some x) i =
-      (ap (λ (b : Bool). cond b (Some (new_credit l.link name)) (f h)) (eq_to h h refl), (i.1.0, subst (AtStage f s.handles x) (wanted_stage l.stage (found_passes is_wanted s.links l found)) i.1.1))
+      (ap (λ (b : Bool). cond b (Some (new_credit l.link name l.receives)) (f h)) (eq_to h h refl), (i.1.0, subst (AtStage f s.handles x) (wanted_stage l.stage (found_passes is_wanted s.links l found)) i.1.1))
 
   pub asked_agree : AllAgree asked_fold (asked_on (Some l) (Some h) name s)
   asked_agree n = by (l.link == n) refl
@@ -95,7 +99,7 @@ module _ (f : ℕ → Option Credit) (s : LinksState) (l : PathLink) (h name : �
           agree_as asked_fold asked_table _ _ _ _ refl (placed_other n (asked_as h name l) s.links e)
           (agree_on f asked_fold s.handles asked_table (link_of s.sending n) (find (has_number n) s.links)
           (λ k is j has. record {
-            fold = ap (λ (b : Bool). cond b (Some (new_credit l.link name)) (f j)) (apart_now n k is j has);
+            fold = ap (λ (b : Bool). cond b (Some (new_credit l.link name l.receives)) (f j)) (apart_now n k is j has);
             names = λ peer named. named_stays s.handles h state.Asked peer j (apart_now n k is j has) (λ e. absurd (asks_none peer e)) named;
           }) (all n))
       by true e =
@@ -106,30 +110,44 @@ module _ (f : ℕ → Option Credit) (s : LinksState) (l : PathLink) (h name : �
 
 -- ---- flows
 
-told_new : (link count link' name : ℕ) → told link count (new_credit link' name) ≡ new_credit link' name
-told_new link count link' name = by (link' == link)
+told_new : (link count link' name : ℕ) (role : Bool) → told link count (new_credit link' name role) ≡ new_credit link' name role
+told_new link count link' name role = by (link' == link)
   where
-    by : (b : Bool) → cond (b && false) (record (new_credit link' name) { count = count }) (new_credit link' name) ≡ new_credit link' name
+    by : (b : Bool) → cond (b && false) (record (new_credit link' name role) { count = count }) (new_credit link' name role) ≡ new_credit link' name role
     by true = refl
     by false = refl
 
 abbrev told_fold : (ℕ → Option Credit) → ℕ → ℕ → ℕ → ℕ → Option Credit
 told_fold f link handle count k = cond (handle == k) (option_map (told link count) (f k)) (f k)
 
--- what a flow leaves of a link that is asked for
-asked_told : (f : ℕ → Option Credit) (link handle count own name : ℕ) (g : Stage) → HasAsked f own name g
-    → HasAsked (told_fold f link handle count) own name g
-asked_told f link handle count own name stage.Wanted i = i
-asked_told f link handle count own name (stage.Asked j) i = by (handle == j)
+told_role : (link count : ℕ) (c : Credit) → (told link count c).receives ≡ c.receives
+told_role link count c = by ((c.link == link) && is_some c.peer)
   where
-    by : (b : Bool) → cond b (option_map (told link count) (f j)) (f j) ≡ Some (new_credit own name)
-    by true = ap (option_map (told link count)) i ∙ ap Some (told_new link count own name)
+    by : (b : Bool) → (cond b (record c { count = count }) c).receives ≡ c.receives
+    by true = refl
+    by false = refl
+
+role_told : (f : ℕ → Option Credit) (link handle count j : ℕ) (role : Bool) → role_in (f j) ≡ Some role → role_in (told_fold f link handle count j) ≡ Some role
+role_told f link handle count j role i = by (handle == j)
+  where
+    by : (b : Bool) → role_in (cond b (option_map (told link count) (f j)) (f j)) ≡ Some role
+    by true = role_mapped (told link count) (told_role link count) (f j) role i
     by false = i
-asked_told f link handle count own name (stage.Open j) i = i
-asked_told f link handle count own name (stage.Refused j) i = i
-asked_told f link handle count own name (stage.Left j) i = i
-asked_told f link handle count own name (stage.Given j) i = i
-asked_told f link handle count own name (stage.Failed j fault) i = i
+
+-- what a flow leaves of a link that is asked for
+asked_told : (f : ℕ → Option Credit) (link handle count own name : ℕ) (role : Bool) (g : Stage) → HasAsked f own name role g
+    → HasAsked (told_fold f link handle count) own name role g
+asked_told f link handle count own name role stage.Wanted i = i
+asked_told f link handle count own name role (stage.Asked j) i = by (handle == j)
+  where
+    by : (b : Bool) → cond b (option_map (told link count) (f j)) (f j) ≡ Some (new_credit own name role)
+    by true = ap (option_map (told link count)) i ∙ ap Some (told_new link count own name role)
+    by false = i
+asked_told f link handle count own name role (stage.Open j) i = role_told f link handle count j role i
+asked_told f link handle count own name role (stage.Refused j) i = role_told f link handle count j role i
+asked_told f link handle count own name role (stage.Left j) i = role_told f link handle count j role i
+asked_told f link handle count own name role (stage.Given j) i = role_told f link handle count j role i
+asked_told f link handle count own name role (stage.Failed j fault) i = role_told f link handle count j role i
 
 -- and of one with another number
 kept_told : (f : ℕ → Option Credit) (t : HandleTable) (link handle count j : ℕ) (x : SendingLink) → (x.link == link) ≡ false → IsKept f t x j
@@ -143,6 +161,7 @@ kept_told f t link handle count j x ne k = record {
   number = k.number;
   count = k.count;
   low = k.low;
+  exact = k.exact;
 }
   where
     stays : told link count k.credit ≡ k.credit
@@ -168,10 +187,10 @@ module _ (f : ℕ → Option Credit) (s : LinksState) (link handle count : ℕ) 
 
   told_apart : (n : ℕ) (o : Option SendingLink) (p : Option PathLink) → link_of s.sending n ≡ o → (n == link) ≡ false → Agree f s.handles o p → Agree after_flow s.handles o p
   told_apart n o None e ne i = i
-  told_apart n None (Some l) e ne i = (asked_told f link handle count l.link l.name l.stage i.0, tt)
+  told_apart n None (Some l) e ne i = (asked_told f link handle count l.link l.name l.receives l.stage i.0, i.1)
   told_apart n (Some x) (Some l) e ne i =
       let other : (x.link == link) ≡ false = ap (λ (m : ℕ). m == link) (found_sender n s.sending x e) ∙ ne in
-      (asked_told f link handle count l.link l.name l.stage i.0, (i.1.0, stage_told f s.handles link handle count x l.stage other i.1.1))
+      (asked_told f link handle count l.link l.name l.receives l.stage i.0, (i.1.0, stage_told f s.handles link handle count x l.stage other i.1.1))
 
   -- of a link that doesn't send
   pub grant_agree : ((k : PathLink) → find (has_number link) s.links ≡ Some k → k.receives ≡ true) → AllAgree f s → AllAgree after_flow s
@@ -179,12 +198,16 @@ module _ (f : ℕ → Option Credit) (s : LinksState) (link handle count : ℕ) 
     where
       alone : (o : Option SendingLink) (p : Option PathLink) → find (has_number n) s.links ≡ p → n ≡ link → Agree f s.handles o p → Agree after_flow s.handles o p
       alone o None e same i = i
-      alone None (Some l) e same i = (asked_told f link handle count l.link l.name l.stage i.0, tt)
+      alone None (Some l) e same i = (asked_told f link handle count l.link l.name l.receives l.stage i.0, i.1)
       alone (Some x) (Some l) e same i = absurd (no_clash l.receives (receives l (ap (λ (m : ℕ). find (has_number m) s.links) (sym same) ∙ e)) i.1.0)
 
       by : (b : Bool) → (n == link) ≡ b → Agree after_flow s.handles (link_of s.sending n) (find (has_number n) s.links)
       by false ne = told_apart n (link_of s.sending n) (find (has_number n) s.links) refl ne (all n)
       by true e = alone (link_of s.sending n) (find (has_number n) s.links) refl (eq_of n link e) (all n)
+
+-- none is left behind all that was
+none_left : (stated credit count given : ℕ) → credit < 2 ^ 32 → given ≡ left_of stated credit count → 0 ≡ left_of stated credit ((count + given) % 2 ^ 32)
+none_left stated credit count given uint e = omega (arith, uint, e)
 
 -- of one that sends: its state, or its credit is given back
 module _ (f : ℕ → Option Credit) (s : LinksState) (l : PathLink) (p : PathLink → Bool) (t : Tied s) (all : AllAgree f s) (found : find p s.links ≡ Some l)
@@ -238,12 +261,21 @@ module _ (f : ℕ → Option Credit) (s : LinksState) (l : PathLink) (p : PathLi
     number = k.number;
     count = drain_count drains x ∙ sym (ap stated_in is);
     low = by drains (sym (ap stated_in is));
+    exact = λ uint. whole drains uint (sym (ap stated_in is));
   }
     where
       by : (b : Bool) → cond b ((x.state.count + x.state.credit) % 2 ^ 32) x.state.count ≡ stated
           → (cond b (after_drain x.state) x.state).credit ≤ left (record k.credit { count = stated })
       by true e = omega arith
       by false e = subst (λ (m : ℕ). x.state.credit ≤ left (record k.credit { count = m })) (sym k.count ∙ e) k.low
+
+      whole : (b : Bool) → k.credit.credit < 2 ^ 32 → cond b ((x.state.count + x.state.credit) % 2 ^ 32) x.state.count ≡ stated
+          → (cond b (after_drain x.state) x.state).credit ≡ left (record k.credit { count = stated })
+      whole true uint e =
+          subst (λ (m : ℕ). 0 ≡ left (record k.credit { count = m })) e
+          (subst (λ (m : ℕ). 0 ≡ left (record k.credit { count = (m + x.state.credit) % 2 ^ 32 })) (sym k.count)
+          (none_left k.credit.stated k.credit.credit k.credit.count x.state.credit uint (k.exact uint)))
+      whole false uint e = subst (λ (m : ℕ). x.state.credit ≡ left (record k.credit { count = m })) (sym k.count ∙ e) (k.exact uint)
 
   stage_now : (x : SendingLink) (g : Stage) → x.link ≡ l.link → ((j : ℕ) → handle_in g ≡ Some j → handle_of l.stage ≡ j) → link_of s.sending l.link ≡ Some x → is_stage_wanted g ≡ false
       → AtStage f s.handles x g → AtStage fold s.handles (drained_if_so drains x) g
@@ -261,9 +293,9 @@ module _ (f : ℕ → Option Credit) (s : LinksState) (l : PathLink) (p : PathLi
 
   agree_now : (o : Option SendingLink) → link_of s.sending l.link ≡ o → Agree f s.handles o (Some l)
       → Agree fold s.handles (option_map (drained_if_so drains) o) (Some (told_once l))
-  agree_now None e i = (asked_told f l.link (handle_of l.stage) stated l.link l.name l.stage i.0, tt)
+  agree_now None e i = (asked_told f l.link (handle_of l.stage) stated l.link l.name l.receives l.stage i.0, i.1)
   agree_now (Some x) e i = (
-    asked_told f l.link (handle_of l.stage) stated l.link l.name l.stage i.0,
+    asked_told f l.link (handle_of l.stage) stated l.link l.name l.receives l.stage i.0,
     (i.1.0, stage_now x l.stage (found_sender l.link s.sending x e) (λ j is. some_is (handle_of l.stage) j (sym has ∙ is)) e there i.1.1),
   )
 
@@ -308,6 +340,9 @@ module _ (f : ℕ → Option Credit) (s : LinksState) (l : PathLink) (p : PathLi
 less_left : (stated credit count : ℕ) → left_of stated credit count ≤ left_of stated credit (advanced count 1) + 1
 less_left stated credit count = omega arith
 
+one_less : (stated credit count most : ℕ) → credit < 2 ^ 32 → 1 ≤ most → most ≡ left_of stated credit count → most - 1 ≡ left_of stated credit (advanced count 1)
+one_less stated credit count most uint some e = omega (arith, uint, some, e)
+
 module _ (f : ℕ → Option Credit) (s : LinksState) (link : ℕ) (t : Tied s) (all : AllAgree f s) (can : can_send (link_of s.sending link) ≡ true) where
   abbrev handle : ℕ
   handle = handle_at link s.links
@@ -325,7 +360,8 @@ module _ (f : ℕ → Option Credit) (s : LinksState) (link : ℕ) (t : Tied s) 
     there : handle_in l.stage ≡ Some handle
     kept : IsKept f s.handles x handle
     some : 1 ≤ x.state.credit
-    stays : (g : ℕ → Option Credit) (y : SendingLink) → IsKept g s.handles y handle → HasAsked g l.link l.name l.stage × AtStage g s.handles y l.stage
+    role : role_in (f handle) ≡ Some l.receives
+    stays : (g : ℕ → Option Credit) (y : SendingLink) → role_in (g handle) ≡ Some l.receives → IsKept g s.handles y handle → HasAsked g l.link l.name l.receives l.stage × AtStage g s.handles y l.stage
 
   has_credit : (x : SendingLink) → can_send (Some x) ≡ true → 1 ≤ x.state.credit
   has_credit x e = grind (arith, nat_tests, and_right x.attached (nat_le 1 x.state.credit) e)
@@ -334,9 +370,9 @@ module _ (f : ℕ → Option Credit) (s : LinksState) (link : ℕ) (t : Tied s) 
   goes = by (link_of s.sending link) refl (find (has_number link) s.links) refl can (all link)
     where
       at : (x : SendingLink) (l : PathLink) (h : ℕ) → link_of s.sending link ≡ Some x → find (has_number link) s.links ≡ Some l → can_send (Some x) ≡ true → l.receives ≡ false
-          → handle_in l.stage ≡ Some h → handle_of l.stage ≡ h → IsKept f s.handles x h
-          → ((g : ℕ → Option Credit) (y : SendingLink) → IsKept g s.handles y h → HasAsked g l.link l.name l.stage × AtStage g s.handles y l.stage) → Goes
-      at x l h is found may sends has hand k stays =
+          → handle_in l.stage ≡ Some h → handle_of l.stage ≡ h → role_in (f h) ≡ Some l.receives → IsKept f s.handles x h
+          → ((g : ℕ → Option Credit) (y : SendingLink) → role_in (g h) ≡ Some l.receives → IsKept g s.handles y h → HasAsked g l.link l.name l.receives l.stage × AtStage g s.handles y l.stage) → Goes
+      at x l h is found may sends has hand role k stays =
           let same : handle ≡ h = ap handle_in_link found ∙ hand in
           record {
             x = x;
@@ -347,27 +383,28 @@ module _ (f : ℕ → Option Credit) (s : LinksState) (link : ℕ) (t : Tied s) 
             there = has ∙ ap Some (sym same);
             kept = subst (IsKept f s.handles x) (sym same) k;
             some = has_credit x may;
-            stays = λ g y i. stays g y (subst (IsKept g s.handles y) same i);
+            role = ap (λ (m : ℕ). role_in (f m)) same ∙ role;
+            stays = λ g y r i. stays g y (ap (λ (m : ℕ). role_in (g m)) (sym same) ∙ r) (subst (IsKept g s.handles y) same i);
           }
 
       staged : (x : SendingLink) (l : PathLink) (q : Stage) → l.stage ≡ q → link_of s.sending link ≡ Some x → find (has_number link) s.links ≡ Some l → can_send (Some x) ≡ true → l.receives ≡ false
-          → AtStage f s.handles x q → Goes
-      staged x l stage.Wanted st is found may sends i = absurd (no_clash x.attached (and_left x.attached (nat_le 1 x.state.credit) may) i.0)
-      staged x l (stage.Asked j) st is found may sends i = absurd (no_clash x.attached (and_left x.attached (nat_le 1 x.state.credit) may) i.0)
-      staged x l (stage.Open j) st is found may sends i =
-          at x l j is found may sends (ap handle_in st) (ap handle_of st) i
-          (λ g y k. subst (λ (q : Stage). HasAsked g l.link l.name q × AtStage g s.handles y q) (sym st) (tt, k))
-      staged x l (stage.Refused j) st is found may sends i =
-          at x l j is found may sends (ap handle_in st) (ap handle_of st) i
-          (λ g y k. subst (λ (q : Stage). HasAsked g l.link l.name q × AtStage g s.handles y q) (sym st) (tt, k))
-      staged x l (stage.Left j) st is found may sends i = absurd i
-      staged x l (stage.Given j) st is found may sends i = absurd i
-      staged x l (stage.Failed j fault) st is found may sends i = absurd i
+          → HasAsked f l.link l.name l.receives q → AtStage f s.handles x q → Goes
+      staged x l stage.Wanted st is found may sends asked i = absurd (no_clash x.attached (and_left x.attached (nat_le 1 x.state.credit) may) i.0)
+      staged x l (stage.Asked j) st is found may sends asked i = absurd (no_clash x.attached (and_left x.attached (nat_le 1 x.state.credit) may) i.0)
+      staged x l (stage.Open j) st is found may sends asked i =
+          at x l j is found may sends (ap handle_in st) (ap handle_of st) asked i
+          (λ g y r k. subst (λ (q : Stage). HasAsked g l.link l.name l.receives q × AtStage g s.handles y q) (sym st) (r, k))
+      staged x l (stage.Refused j) st is found may sends asked i =
+          at x l j is found may sends (ap handle_in st) (ap handle_of st) asked i
+          (λ g y r k. subst (λ (q : Stage). HasAsked g l.link l.name l.receives q × AtStage g s.handles y q) (sym st) (r, k))
+      staged x l (stage.Left j) st is found may sends asked i = absurd i
+      staged x l (stage.Given j) st is found may sends asked i = absurd i
+      staged x l (stage.Failed j fault) st is found may sends asked i = absurd i
 
       by : (o : Option SendingLink) → link_of s.sending link ≡ o → (q : Option PathLink) → find (has_number link) s.links ≡ q → can_send o ≡ true → Agree f s.handles o q → Goes
       by None is q found may i = absurd cc
       by (Some x) is None found may i = absurd cc
-      by (Some x) is (Some l) found may i = staged x l l.stage refl is found may i.1.0 i.1.1
+      by (Some x) is (Some l) found may i = staged x l l.stage refl is found may i.1.0 i.0 i.1.1
 
   -- the fold leaves it a credit of one
   pub credit_there : (c : Credit) × (f handle ≡ Some c) × (1 ≤ left c)
@@ -392,10 +429,18 @@ module _ (f : ℕ → Option Credit) (s : LinksState) (link : ℕ) (t : Tied s) 
         number = k.number;
         count = ap (λ (m : ℕ). advanced m 1) k.count;
         low = let low : g.x.state.credit ≤ left k.credit = k.low in omega (arith, low, less);
+        exact = λ uint. one_less k.credit.stated k.credit.credit k.credit.count g.x.state.credit uint g.some (k.exact uint);
       }
 
+  role_begun : (g : Goes) → role_in (begun_fold handle) ≡ Some g.l.receives
+  role_begun g = by (handle == handle)
+    where
+      by : (b : Bool) → role_in (cond b (option_map begun (f handle)) (f handle)) ≡ Some g.l.receives
+      by true = role_mapped begun (λ c. refl) (f handle) g.l.receives g.role
+      by false = g.role
+
   agree_begun : (g : Goes) → Agree begun_fold s.handles (Some (record g.x { state = after_begun g.x.state })) (Some g.l)
-  agree_begun g = let now = g.stays begun_fold (record g.x { state = after_begun g.x.state }) (kept_begun g) in (now.0, (g.sends, now.1))
+  agree_begun g = let now = g.stays begun_fold (record g.x { state = after_begun g.x.state }) (role_begun g) (kept_begun g) in (now.0, (g.sends, now.1))
 
   begun_by : Goes → AllAgree begun_fold (record s { sending = map (begun_on link) s.sending })
   begun_by g n = by (link == n) refl

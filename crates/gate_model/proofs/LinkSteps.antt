@@ -86,11 +86,11 @@ abbrev name_of : Option Credit → Option ℕ
 name_of o = option_map (λ (c : Credit). c.name) o
 
 abbrev asks : LinkStep → Bool
-asks (Asked link handle name) = true
+asks (Asked link handle name receives) = true
 asks x = false
 
 name_stays : (k : ℕ) (x : LinkStep) (o : Option Credit) → asks x ≡ false → name_of (after_step k x o) ≡ name_of o
-name_stays k (Asked link handle name) o e = absurd cc
+name_stays k (Asked link handle name receives) o e = absurd cc
 name_stays k (Answered name peer) None e = refl
 name_stays k (Answered name peer) (Some c) e = by ((c.name == name) && not (is_some c.peer))
   where
@@ -135,18 +135,18 @@ names_on f g most up le same a = record {
   apart = λ j k m e i. a.apart j k m (sym (same j) ∙ e) (sym (same k) ∙ i);
 }
 
-names_asked : (f : ℕ → Option Credit) (most link handle name : ℕ) → name ≡ most → NamesAre f most → NamesAre (λ k. after_step k (Asked link handle name) (f k)) (most + 1)
-names_asked f most link handle name is a = record { below = λ k m. below k m (handle == k); apart = λ j k m. apart j k m (handle == j) refl (handle == k) refl }
+names_asked : (f : ℕ → Option Credit) (most link handle name : ℕ) (role : Bool) → name ≡ most → NamesAre f most → NamesAre (λ k. after_step k (Asked link handle name role) (f k)) (most + 1)
+names_asked f most link handle name role is a = record { below = λ k m. below k m (handle == k); apart = λ j k m. apart j k m (handle == j) refl (handle == k) refl }
   where
-    below : (k m : ℕ) (b : Bool) → name_of (if b then Some (new_credit link name) else f k) ≡ Some m → m < most + 1
+    below : (k m : ℕ) (b : Bool) → name_of (if b then Some (new_credit link name role) else f k) ≡ Some m → m < most + 1
     below k m true e = let same : name ≡ m = cc in omega (arith, same, is)
     below k m false e = let less : m < most = a.below k m e in omega (arith, less)
 
     equal : (i k : ℕ) → (i == k) ≡ true → i ≡ k
     equal i k e = grind (arith, nat_tests, e)
 
-    apart : (j k m : ℕ) (b : Bool) → (handle == j) ≡ b → (c : Bool) → (handle == k) ≡ c → name_of (if b then Some (new_credit link name) else f j) ≡ Some m
-        → name_of (if c then Some (new_credit link name) else f k) ≡ Some m → j ≡ k
+    apart : (j k m : ℕ) (b : Bool) → (handle == j) ≡ b → (c : Bool) → (handle == k) ≡ c → name_of (if b then Some (new_credit link name role) else f j) ≡ Some m
+        → name_of (if c then Some (new_credit link name role) else f k) ≡ Some m → j ≡ k
     apart j k m true e true g x y = sym (equal handle j e) ∙ equal handle k g
     apart j k m true e false g x y = let same : name ≡ m = cc in let less : m < most = a.below k m y in absurd (omega (arith, same, less, is))
     apart j k m false e true g x y = let same : name ≡ m = cc in let less : m < most = a.below j m x in absurd (omega (arith, same, less, is))
@@ -443,8 +443,8 @@ given_names n h (up.OnSession k (unit.Attach a)) text p d less old = by (k == n)
     earlier : NamesAre (credits n h) (attaches_in h)
     earlier = old (omega (arith, less))
 
-    by : (b : Bool) → NamesAre (more n h (if b then Asked a.link a.handle a.name ∷ [] else [])) (attaches_in h + 1)
-    by true = names_asked (credits n h) (attaches_in h) a.link a.handle a.name name earlier
+    by : (b : Bool) → NamesAre (more n h (if b then Asked a.link a.handle a.name a.receives ∷ [] else [])) (attaches_in h + 1)
+    by true = names_asked (credits n h) (attaches_in h) a.link a.handle a.name a.receives name earlier
     by false = names_on (credits n h) (credits n h) (attaches_in h) (attaches_in h + 1) (omega arith) (λ k. refl) earlier
 given_names n h (up.OnSession k (unit.Flow f)) text p d less old =
     names_on (credits n h) _ (attaches_in h) _ (omega arith) (λ i. names_stay n i h _ (none_asks (k == n) _ (refl, tt))) (old (omega (arith, less)))
@@ -469,7 +469,7 @@ names_are n (s ∷ h) p less = names_on (credits n h) _ (attaches_in h) _ (omega
 -- the names of the attaches are below their count
 asks_none : (m : ℕ) (xs ys : List LinkStep) → AllByRecursion (λ x. asks x ≡ false) xs → asked_as m (xs ++ ys) ≡ asked_as m ys
 asks_none m [] ys a = refl
-asks_none m (Asked link handle name ∷ xs) ys a = absurd (let no : true ≡ false = a.0 in cc)
+asks_none m (Asked link handle name receives ∷ xs) ys a = absurd (let no : true ≡ false = a.0 in cc)
 asks_none m (Answered name peer ∷ xs) ys a = asks_none m xs ys a.1
 asks_none m (Flowed peer count credit ∷ xs) ys a = asks_none m xs ys a.1
 asks_none m (Begun handle ∷ xs) ys a = asks_none m xs ys a.1
@@ -498,7 +498,7 @@ given_below n h (up.OnSession k (unit.Attach a)) text p d less old = by (k == n)
     asked m link true e f = let same : a.name ≡ m = grind (arith, nat_tests, e) in omega (arith, same, name)
     asked m link false e f = let under : m < attaches_in h = earlier m link f in omega (arith, under)
 
-    by : (b : Bool) → AreBelow ((if b then Asked a.link a.handle a.name ∷ [] else []) ++ link_steps n h) (attaches_in h + 1)
+    by : (b : Bool) → AreBelow ((if b then Asked a.link a.handle a.name a.receives ∷ [] else []) ++ link_steps n h) (attaches_in h + 1)
     by true = λ m link e. asked m link (a.name == m) refl e
     by false = λ m link e. let under : m < attaches_in h = earlier m link e in omega (arith, under)
 given_below n h (up.OnSession k (unit.Flow f)) text p d less old = below_more _ (link_steps n h) (attaches_in h) _ (omega arith) (none_asks (k == n) _ (refl, tt)) (old (omega (arith, less)))
@@ -537,7 +537,7 @@ module _ (arrives : DeliveriesAre) (closed : ClosedAre) (calls : CallsAre) where
       heard_agrees P r n life below h p.1 l (agree_by P r n below h p.1 less life l) (distinct (credits n h) (attaches_in h) (names_are n h p.1 less)) u
   agree_by P r n below (s ∷ h) p less life l = other_agrees P r n life below s h refl refl (agree_by P r n below h p.1 less life) l
 
-  agrees : (n : ℕ) → n ≤ CHANNEL_MAX → (h : List Step) → ArePicks h → attaches_in h ≤ 2 ^ 64 → (life : ℕ) → path_life h n ≡ Some life
+  pub agrees : (n : ℕ) → n ≤ CHANNEL_MAX → (h : List Step) → ArePicks h → attaches_in h ≤ 2 ^ 64 → (life : ℕ) → path_life h n ≡ Some life
       → AllAgree (credits n h) (after_events life (path_events h n)).links
   agrees = agree_by (λ xs s. AllAgree (λ k. credit_by k xs) s) credit_rules
 

@@ -13,7 +13,7 @@ use Rattle.gate_model.specs.State.{Step}
 -- the link of the gateway's last attach under the name with this number
 abbrev pub asked_as : ℕ → List LinkStep → Option ℕ
 asked_as name [] = None
-asked_as name (Asked link handle m ∷ xs) = if m == name then Some link else asked_as name xs
+asked_as name (Asked link handle m receives ∷ xs) = if m == name then Some link else asked_as name xs
 asked_as name (x ∷ xs) = asked_as name xs
 
 -- the link that the container's last attach with this handle of it answered

@@ -5,6 +5,7 @@ pub mod Begins
 pub mod Behind
 pub mod Closes
 pub mod Contents
+pub mod Counts
 pub mod Credits
 pub mod Declares
 pub mod Delivers

@@ -22,9 +22,9 @@ use Rattle.gate_model.specs.State.{Gave, Heard, Step}
 use Rattle.gate_model.specs.Upstream.{meaning_by}
 
 pub data LinkStep : Type 0 where
-  -- the gateway's attach of the link with this number went, with this handle and this number in its
-  -- name (2.7.3)
-  Asked : (link handle name : ℕ) → LinkStep
+  -- the gateway's attach of the link with this number went, with this handle, this number in its
+  -- name, and its role (2.7.3)
+  Asked : (link handle name : ℕ) (receives : Bool) → LinkStep
   -- the container's attach under this name came, with its own handle
   Answered : (name peer : ℕ) → LinkStep
   -- its flow on the link with this handle of it came, with its delivery-count and link-credit
@@ -39,6 +39,8 @@ pub record Credit : Type 0 where
   -- the number of the link, and that in its name
   pub link : ℕ
   pub name : ℕ
+  -- the gateway attached it as a receiver
+  pub receives : Bool
   -- the container's handle of the link, once its attach came
   pub peer : Option ℕ
   -- the delivery-count and the link-credit of its last flow
@@ -54,9 +56,16 @@ abbrev pub left : Credit → ℕ
 left c = left_of c.stated c.credit c.count
 
 -- the gateway's attach states the delivery-count 0; it has no credit before a flow
-abbrev pub new_credit : ℕ → ℕ → Credit
-new_credit link name =
-    record { link = link; name = name; peer = None; stated = 0; credit = 0; count = 0 }
+abbrev pub new_credit : ℕ → ℕ → Bool → Credit
+new_credit link name receives = record {
+  link = link;
+  name = name;
+  receives = receives;
+  peer = None;
+  stated = 0;
+  credit = 0;
+  count = 0;
+}
 
 -- an attach under its name answers it once
 abbrev pub answered : ℕ → ℕ → Credit → Credit
@@ -83,7 +92,8 @@ told link count c =
 
 -- of the link that has this handle: each attach with it begins anew
 abbrev pub after_step : ℕ → LinkStep → Option Credit → Option Credit
-after_step h (Asked link k name) o = if k == h then Some (new_credit link name) else o
+after_step h (Asked link k name receives) o =
+    if k == h then Some (new_credit link name receives) else o
 after_step h (Answered name peer) o = option_map (answered name peer) o
 after_step h (Flowed peer count credit) o = option_map (flowed peer count credit) o
 after_step h (Begun k) o = if k == h then option_map begun o else o
@@ -98,7 +108,7 @@ credit_by h (x ∷ xs) = after_step h x (credit_by h xs)
 
 -- a unit of the gateway: an attach, a flow, or the first frame of a transfer
 abbrev pub given_step : SessionUnit → List LinkStep
-given_step (unit.Attach a) = Asked a.link a.handle a.name ∷ []
+given_step (unit.Attach a) = Asked a.link a.handle a.name a.receives ∷ []
 given_step (unit.Flow f) = Told f.link f.handle f.count ∷ []
 given_step (unit.Transfer t) = if t.frame.first then Begun t.handle ∷ [] else []
 given_step (unit.Dispose x) = []

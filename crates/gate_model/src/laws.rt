@@ -13,6 +13,7 @@ ghost use Rattle.gate_model.specs.Begins.{OpensBehindBegins};
 ghost use Rattle.gate_model.specs.Behind.{DeliversBehind};
 ghost use Rattle.gate_model.specs.Closes.{ClosesALifeOnce};
 ghost use Rattle.gate_model.specs.Contents.{AreImages, StandTogether, Writes};
+ghost use Rattle.gate_model.specs.Counts.{CountsAreKept};
 ghost use Rattle.gate_model.specs.Credits.{KeepsQuotas, StatesCredit};
 ghost use Rattle.gate_model.specs.Delivers.{Delivers};
 ghost use Rattle.gate_model.specs.Asked.{AreCalledFor, GoesWhenDue, ShutsUpAtOnce};
@@ -279,6 +280,17 @@ pub fn transfers_are_lawful()
 /// It holds of the first 2^64 attaches, which have names of their own.
 pub fn credit_is_kept()
     ensures { (h : List Step) → ArePicks h → CreditIsKept h }
+{
+    deliveries_lawfully();
+    calls_lawfully();
+    numbers_lawfully();
+}
+
+/// A flow of a link that the gateway attached as a sender states the delivery-count and the credit
+/// that the steps before it leave, or it gives that credit back: then its count is past it, and it
+/// states no credit. It holds of the first 2^64 attaches, which have names of their own.
+pub fn counts_are_kept()
+    ensures { (h : List Step) → ArePicks h → CountsAreKept h }
 {
     deliveries_lawfully();
     calls_lawfully();
