@@ -121,7 +121,7 @@ keeps_fits b s n k ls m t o c f =
     (λ e. same_fits b s (life_at ls n) m (t ∙ ap (λ (i : ℕ). (life_at ls i).told) e) (o ∙ ap (λ (i : ℕ). (life_at ls i).close_ok) e) (c ∙ ap (λ (i : ℕ). (life_at ls i).close) e) f)
     (λ d. f)
 
-open_at : (c : Connection) (n : ℕ) → is_open c n ≡ true → channel_at c n ≡ channel.Open
+pub open_at : (c : Connection) (n : ℕ) → is_open c n ≡ true → channel_at c n ≡ channel.Open
 open_at c n e = by (channel_at c n) (and_right (is_running c.phase) _ e)
   where
     by : (s : Channel91) → is_open_channel s ≡ true → s ≡ channel.Open
@@ -256,13 +256,13 @@ meaning_fits b n (ten.Violation why) w less f = fail_fits b n _ _ w f
 
 -- ---- units that go
 
-abbrev freed_turns : Channel91 → Channel91
+abbrev pub freed_turns : Channel91 → Channel91
 freed_turns channel.Free = channel.Free
 freed_turns channel.Open = channel.Open
 freed_turns channel.Closing = channel.Free
 freed_turns channel.Told = channel.Told
 
-abbrev told_turns : Channel91 → Channel91
+abbrev pub told_turns : Channel91 → Channel91
 told_turns channel.Free = channel.Free
 told_turns channel.Open = channel.Open
 told_turns channel.Closing = channel.Told
@@ -285,7 +285,7 @@ stay_turns k n c turns e = by (k == n) refl
     by true f = let here : k ≡ n = grind (arith, nat_tests, f) in subst (λ (i : ℕ). channel_at c i ≡ turns (channel_at c i)) here (sym e)
     by false f = refl
 
-freed_at : (k n : ℕ) (c : Connection) → n < length c.channels → channel_at (freed_channel (channel_at c k) k c) n ≡ (if k == n then freed_turns (channel_at c n) else channel_at c n)
+pub freed_at : (k n : ℕ) (c : Connection) → n < length c.channels → channel_at (freed_channel (channel_at c k) k c) n ≡ (if k == n then freed_turns (channel_at c n) else channel_at c n)
 freed_at k n c less = by (channel_at c k) refl
   where
     by : (s : Channel91) → channel_at c k ≡ s → channel_at (freed_channel s k c) n ≡ (if k == n then freed_turns (channel_at c n) else channel_at c n)
@@ -294,7 +294,7 @@ freed_at k n c less = by (channel_at c k) refl
     by channel.Closing e = set_turns k n c _ freed_turns less (sym (ap (λ (s : Channel91). with_channel c k (freed_turns s)) e))
     by channel.Told e = stay_turns k n c freed_turns (ap freed_turns e ∙ sym e)
 
-told_at : (k n : ℕ) (c : Connection) → n < length c.channels → channel_at (told_channel (channel_at c k) k c) n ≡ (if k == n then told_turns (channel_at c n) else channel_at c n)
+pub told_at : (k n : ℕ) (c : Connection) → n < length c.channels → channel_at (told_channel (channel_at c k) k c) n ≡ (if k == n then told_turns (channel_at c n) else channel_at c n)
 told_at k n c less = by (channel_at c k) refl
   where
     by : (s : Channel91) → channel_at c k ≡ s → channel_at (told_channel s k c) n ≡ (if k == n then told_turns (channel_at c n) else channel_at c n)
@@ -348,7 +348,7 @@ begun_fits b n u w f = f
 
 -- ---- all steps
 
-free_at : (n : ℕ) → or_free (slice_get no_channels n) ≡ channel.Free
+pub free_at : (n : ℕ) → or_free (slice_get no_channels n) ≡ channel.Free
 unfolding no_channels
 free_at n = at 256 n
   where

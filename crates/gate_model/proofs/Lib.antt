@@ -41,6 +41,7 @@ pub mod FittingUp
 pub mod Flows
 pub mod Framed
 pub mod Frames
+pub mod Freeing
 pub mod Getting
 pub mod Giving
 pub mod Givings
@@ -78,6 +79,7 @@ pub mod Losing
 pub mod Orders
 pub mod Outcomes
 pub mod Overs
+pub mod Owing
 pub mod Parted
 pub mod Passed
 pub mod Phases

@@ -45,7 +45,7 @@ use Rattle.gate_model.specs.Lives.{each, is_carried, life_at, session_in}
 use Rattle.gate_model.specs.Paths.{path_at}
 use Rattle.gate_model.specs.Picks.{ArePicks}
 use Rattle.gate_model.specs.Publishing.{path_events, path_life}
-use Rattle.gate_model.specs.Rests.{IsServed, IsSupplied, ServesClients, SuppliesContainers}
+use Rattle.gate_model.specs.Rests.{IsServed, IsSupplied, SuppliesContainers}
 use Rattle.gate_model.specs.State.{State, Step, before, is_settled}
 use Rattle.gate_model.specs.Upstream.{first, opening_rows, when_up}
 use Rattle.gate_model.specs.declared.channel.SessionUnit.{SessionUnit}
@@ -94,7 +94,7 @@ pub none_in : {A : Type 0} (f : A → Outgoing) (us : List A) → first (map f u
 none_in f [] e = refl
 none_in f (u ∷ us) e = absurd cc
 
-if_so_none : (b : Bool) (us : List Reply) → b ≡ true → if_so b us ≡ [] → us ≡ []
+pub if_so_none : (b : Bool) (us : List Reply) → b ≡ true → if_so b us ≡ [] → us ≡ []
 if_so_none b us e f = ap (λ (c : Bool). if_so c us) (sym e) ∙ f
 
 unless_none : {A : Type 0} (b : Bool) (us : List A) → b ≡ false → (if b then [] else us) ≡ [] → us ≡ []
@@ -104,14 +104,14 @@ when_none : (b : Bool) (u : Reply) → when b u ≡ [] → b ≡ false
 when_none true u e = absurd cc
 when_none false u e = refl
 
-no_some : {A : Type 0} (o : Option A) → is_some o ≡ true → o ≡ None → ⊥
+pub no_some : {A : Type 0} (o : Option A) → is_some o ≡ true → o ≡ None → ⊥
 no_some None e f = absurd cc
 no_some (Some x) e f = cc
 
 -- ---- what goes to the client
 
 -- a return is neither to go on nor to begin
-no_return : (n : ℕ) (o : Option NextReturn) → content_on n o ≡ [] → return_on true n o ≡ [] → o ≡ None
+pub no_return : (n : ℕ) (o : Option NextReturn) → content_on n o ≡ [] → return_on true n o ≡ [] → o ≡ None
 no_return n None e f = refl
 no_return n (Some r) e f = absurd (both r.first (when_none (not r.first) _ e) (when_none (true && r.first) _ f))
   where
@@ -119,7 +119,7 @@ no_return n (Some r) e f = absurd (both r.first (when_none (not r.first) _ e) (w
     both true g h = cc
     both false g h = cc
 
-no_confirm : (n : ℕ) (o : Option Confirm) → confirm_on true n o ≡ [] → o ≡ None
+pub no_confirm : (n : ℕ) (o : Option Confirm) → confirm_on true n o ≡ [] → o ≡ None
 no_confirm n None e = refl
 no_confirm n (Some c) e = absurd cc
 
@@ -141,15 +141,15 @@ only_get ok.Get e f g = refl
 only_get x e f g = absurd cc
 
 -- the rows of the connection's opening, and those behind the answers
-abbrev opening : List Step → Pending
+abbrev pub opening : List Step → Pending
 opening h = may_go (is_settled (before h)) (before h).pending
 
-abbrev last_rows : List Step → List Reply
+abbrev pub last_rows : List Step → List Reply
 last_rows h =
     close_oks (opening h) ++ (if_so (may_end (before h)) (channel_oks (before h))
     ++ (last_closes (opening h) ++ if_so (may_tell (before h)) (channel_closes (before h))))
 
-abbrev later : List Step → List Reply
+abbrev pub later : List Step → List Reply
 later h = if_so (may_answer (before h) || (before h).by_peer) (confirms (before h)) ++ last_rows h
 
 confirms_are : (n : ℕ) (w : State) → w.out_of_memory ≡ false → (life_at w.lives n).over ≡ false
@@ -246,7 +246,7 @@ blocked true may t d e = refl
 blocked false may t d e = absurd cc
 
 -- every return went whole
-all_back : (ps : List PublishEvent) → MostAre → return_by ps ≡ None → (k : ℕ) → IsTaken ps k → IsReturned (fate_of k ps)
+pub all_back : (ps : List PublishEvent) → MostAre → return_by ps ≡ None → (k : ℕ) → IsTaken ps k → IsReturned (fate_of k ps)
 all_back ps most e k t r = by (is_to_return (fate_of k ps)) refl
   where
     f : Fate
@@ -288,7 +288,7 @@ all_back ps most e k t r = by (is_to_return (fate_of k ps)) refl
 
 module _ (publishes : PublishesAre) (offered : OfferedAre) (returns : ReturnsAre) (most : MostAre) (arrives : DeliveriesAre) (due : DueAre) (tags : TagsAre)
     (globals : GlobalsAre) (frames : ContentIs) (begun : BegunBelow) (below : LivesBelow) where
-  served : (h : List Step) (n life : ℕ) → ArePicks h → path_life h n ≡ Some life → is_open (connection h) n ≡ true → pick (before h) Client ≡ None
+  pub served : (h : List Step) (n life : ℕ) → ArePicks h → path_life h n ≡ Some life → is_open (connection h) n ≡ true → pick (before h) Client ≡ None
       → IsServed h n life
   served h n life p l on e = record {
     confirms = λ k owed. no_some (next_confirm_of (publishes_open life ps))
@@ -341,9 +341,6 @@ module _ (publishes : PublishesAre) (offered : OfferedAre) (returns : ReturnsAre
           blocked _ _ _ d
           (sym (ap (λ (o : Option NextDeliver). deliver_in o s) next)
           ∙ sym (ap (λ (b : Bool). if b then deliver_in (next_deliver_of s.deliveries.global s.deliveries.list) s else None) test) ∙ none)
-
-  pub serves : (h : List Step) → ArePicks h → ServesClients h
-  serves h p e n life l on = served h n life p l on e
 
 -- ---- what goes to the container
 

@@ -1,9 +1,9 @@
 -- What goes on a channel that closes: no answer and no delivery; and what is owed for publishes only
 -- where its container caused that (AMQP 0-9-1 1.5.2.5; RabbitMQ's publisher confirms).
-use Rattle.std.specs.Prelude.{◌≡◌, ◌⊎◌, ℕ, Bool, true, false, if◌then◌else◌, List, [], ◌∷◌}
+use Rattle.std.specs.Prelude.{◌≡◌, ◌⊎◌, ℕ, Bool, true, false, if◌then◌else◌, ◌&&◌, List, [], ◌∷◌}
 use Rattle.gate_outside.specs.declared.ports.End.TheVariants.{Client, Up}
 use Rattle.gate_outside.specs.declared.ports.Linked.TheVariants as link
-use Rattle.machine_091.specs.State.{is_open}
+use Rattle.machine_091.specs.State.{is_closing, is_open}
 use Rattle.gate_model.specs.declared.channel.ChannelUnit.{ChannelUnit}
 use Rattle.gate_model.specs.declared.channel.ChannelUnit.TheVariants as unit
 use Rattle.gate_model.specs.declared.outgoing.Outgoing.TheVariants.{ToClient}
@@ -40,6 +40,13 @@ by_container (s ∷ h) n =
     if is_open (connection (s ∷ h)) n then false
     else if is_open (connection h) n then is_containers s
     else by_container h n
+
+-- such a step was the closing event of the connection
+abbrev pub ended_by_container : List Step → Bool
+ended_by_container [] = false
+ended_by_container (s ∷ h) =
+    if is_closing (connection h) then ended_by_container h
+    else is_closing (connection (s ∷ h)) && is_containers s
 
 -- channel n is open, or its container closed it
 abbrev pub IsCalledFor : List Step → ℕ → Type 0

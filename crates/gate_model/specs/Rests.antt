@@ -1,6 +1,6 @@
 -- What is owed to an end to which nothing goes: nothing. Told by the events of the life in progress,
 -- over the fates of its publishes and deliveries.
-use Rattle.std.specs.Prelude.{◌≡◌, ℕ, ◌≤◌, ◌<◌, true, false, List, None, Some}
+use Rattle.std.specs.Prelude.{◌≡◌, ◌⊎◌, ℕ, ◌≤◌, ◌<◌, true, false, List, None, Some}
 use Rattle.std.specs.List.{list_any}
 use Rattle.consume_path.specs.Journal.{global_of, tags_of}
 use Rattle.consume_path.specs.Laws.{IsOwed, deliver_by}
@@ -8,7 +8,7 @@ use Rattle.consume_path.specs.Offers.{serves_gets}
 use Rattle.consume_path.specs.declared.delivery.NextDeliver.{NextDeliver}
 use Rattle.gate_outside.specs.declared.ports.End.TheVariants.{Client, Up}
 use Rattle.gate_relay.specs.Sides.{is_readable}
-use Rattle.machine_091.specs.State.{is_open}
+use Rattle.machine_091.specs.State.{is_closing, is_open}
 use Rattle.publish_path.specs.Laws.{IsOwedConfirm, frame_by, return_by}
 use Rattle.session_path.specs.Due.{most_tags, next_attach, next_detach, next_flow, next_settle}
 use Rattle.session_path.specs.Events.{after_events, deliveries_of, publishes_of}
@@ -16,10 +16,12 @@ use Rattle.session_path.specs.Path.{first_of}
 use Rattle.session_path.specs.declared.path.PathOk.{PathOk}
 use Rattle.session_path.specs.declared.path.PathOk.TheVariants as ok
 use Rattle.gate_model.specs.Asked.{is_up_close}
+use Rattle.gate_model.specs.Closes.{closes_since}
 use Rattle.gate_model.specs.Contents.{IsBegun}
 use Rattle.gate_model.specs.Due.{pick}
 use Rattle.gate_model.specs.Folds.{carrying, connection, container, ran_out_in, sent_up, side_in}
 use Rattle.gate_model.specs.Lives.{is_carried, session_in}
+use Rattle.gate_model.specs.Parting.{IsCalledFor, ended_by_container}
 use Rattle.gate_model.specs.Publishing.{path_events, path_life}
 use Rattle.gate_model.specs.State.{Step, before}
 
@@ -39,11 +41,27 @@ pub record IsServed (h : List Step) (n life : ℕ) : Type 0 where
   pub answers : (x : PathOk) → first_of (after_events life (path_events h n)).oks ≡ Some x
       → x ≡ ok.Get
 
--- where nothing goes to the client, nothing is owed on a channel that is open
+-- what is owed for publishes goes on a channel that its container closed too, until the gateway's
+-- channel.close goes (AMQP 0-9-1 1.5.2.5): while the connection goes on or its container closed
+-- that, and the pair has memory
+pub record IsToTell (h : List Step) (n : ℕ) : Type 0 where
+  pub called : IsCalledFor h n
+  pub unclosed : closes_since n h ≡ 0
+  pub connection : (is_closing (connection h) ≡ false) ⊎ (ended_by_container h ≡ true)
+  pub memory : ran_out_in h ≡ false
+
+-- no publish that waits for its confirm has an outcome, and none is to go back
+pub record IsTold (h : List Step) (n life : ℕ) : Type 0 where
+  pub confirms : (k : ℕ) → IsOwedConfirm (publishes_of life (path_events h n)) k → ⊥
+  pub returns : return_by (publishes_of life (path_events h n)) ≡ None
+
+-- where nothing goes to the client, nothing is owed on a channel that is open, and no confirm and no
+-- return on one that its container closed
 abbrev pub ServesClients : List Step → Type 0
 ServesClients h =
     pick (before h) Client ≡ None → (n life : ℕ) → path_life h n ≡ Some life
-    → is_open (connection h) n ≡ true → IsServed h n life
+    → (is_open (connection h) n ≡ true → IsServed h n life)
+    × (IsToTell h n → IsTold h n life)
 
 -- ---- to the container
 

@@ -357,9 +357,11 @@ pub fn lines_are_lawful()
 /// Where nothing goes to the client, each channel that is open has nothing owed: no publish that
 /// waits for its confirm has an outcome, none is to go back, no content is begun, no delivery to a
 /// consumer may go, and each request whose answer is due was answered, but for one that waits for
-/// its get-ok. Where nothing goes to the container before the gateway's close, each session that is
-/// begun has nothing owed: no disposition is due, no link is to be detached, and while the pair has
-/// memory no publish may be transferred, no credit is to be stated, and no link to be attached.
+/// its get-ok. While the pair has memory, one that its container closed is owed no confirm and no
+/// return until its channel.close. Where nothing goes to the container before the gateway's close,
+/// each session that is begun has nothing owed: no disposition is due, no link is to be detached,
+/// and while the pair has memory no publish may be transferred, no credit is to be stated, and no
+/// link to be attached.
 pub fn owed_units_go()
     ensures clients { (h : List Step) → ArePicks h → ServesClients h }
     ensures containers { (h : List Step) → ArePicks h → SuppliesContainers h }

@@ -1,7 +1,8 @@
 use Rattle.gate_model.proofs.Delivers.{fresh_are}
 use Rattle.gate_model.proofs.Frames.{within}
 use Rattle.gate_model.proofs.Images.{life_below}
-use Rattle.gate_model.proofs.Rests.{serves, supplies}
+use Rattle.gate_model.proofs.Owing.{serves}
+use Rattle.gate_model.proofs.Rests.{supplies}
 use Rattle.gate_model.proofs.Writing.{begun_below, content_is}
 use Rattle.gate_model.proofs.laws.owed_units_go.Goals as goal
 
