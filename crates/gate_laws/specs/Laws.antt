@@ -21,6 +21,7 @@ use Rattle.gate_model.specs.Contents.{AreImages, StandTogether, Writes}
 use Rattle.gate_model.specs.Begins.{OpensBehindBegins}
 use Rattle.gate_model.specs.Behind.{DeliversBehind}
 use Rattle.gate_model.specs.Closes.{ClosesALifeOnce}
+use Rattle.gate_model.specs.Counts.{CountsAreKept}
 use Rattle.gate_model.specs.Credits.{KeepsQuotas, StatesCredit}
 use Rattle.gate_model.specs.Declares.{DeclaresFound}
 use Rattle.gate_model.specs.Delivers.{Delivers}
@@ -84,8 +85,10 @@ pub record IsLawfulPair (s : SetupText) (h : List Entry) : Type 0 where
   pub confirms : Confirms (steps_of s h)
   pub returns : Returns (steps_of s h)
   pub transfers : Transfers (steps_of s h)
-  -- the credit is what all that went and came on the link leaves of it
+  -- the credit is what all that went and came on the link leaves of it, and a flow states that or
+  -- gives it back
   pub credit : CreditIsKept (steps_of s h)
+  pub counts : CountsAreKept (steps_of s h)
   -- each frame goes under a handle that is tied to the address that its publish asked for; which
   -- publishes wait for a confirm, and its number, is said by the first confirm.select
   pub reaches : ReachesAddress (steps_of s h)

@@ -16,6 +16,7 @@ ghost use Rattle.gate_model.specs.Contents.{AreImages, StandTogether, Writes};
 ghost use Rattle.gate_model.specs.Begins.{OpensBehindBegins};
 ghost use Rattle.gate_model.specs.Behind.{DeliversBehind};
 ghost use Rattle.gate_model.specs.Closes.{ClosesALifeOnce};
+ghost use Rattle.gate_model.specs.Counts.{CountsAreKept};
 ghost use Rattle.gate_model.specs.Credits.{KeepsQuotas, StatesCredit};
 ghost use Rattle.gate_model.specs.Declares.{DeclaresFound};
 ghost use Rattle.gate_model.specs.Delivers.{Delivers};
@@ -140,10 +141,11 @@ pub fn requests_hold_what_follows()
 /// Where nothing goes to a client, each channel that is open has nothing owed: no publish that
 /// waits for its confirm has an outcome, none is to go back, no content is begun, no delivery to a
 /// consumer may go, and each request whose answer is due was answered, but for one that waits for
-/// its get-ok. Where nothing goes to a container before the gateway's close, each session that is
-/// begun has nothing owed: no disposition is due, no link is to be detached, and while the pair has
-/// memory no publish may be transferred, no credit is to be stated, and no link to be attached. Nor
-/// is a begin, a flow of a session, an end or the close.
+/// its get-ok. While the pair has memory, one that its container closed is owed no confirm and no
+/// return until its channel.close. Where nothing goes to a container before the gateway's close,
+/// each session that is begun has nothing owed: no disposition is due, no link is to be detached,
+/// and while the pair has memory no publish may be transferred, no credit is to be stated, and no
+/// link to be attached. Nor is a begin, a flow of a session, an end or the close.
 pub fn owed_units_go()
     ensures clients { (s : SetupText) (c : Limits) (m : History) → Follows (pair_words s) c m
         → (p : ℕ) → ServesClients (steps_of s (journal p m)) }
@@ -173,10 +175,10 @@ pub fn channels_are_answered_once()
 /// released, or whose address it didn't know; its confirm goes after the last. Each frame of a
 /// transfer that goes to a container is that of the publish that is begun, else of the least number
 /// that waits on an attached link with credit, while the window of the session has room; the first
-/// one goes only where what went and came on its link leaves that a credit of one; it carries the
-/// first bytes that are left of the payload. So the frames of a publish carry the text of the
-/// image of its message, each byte once and in order, and all of it once one says that no more
-/// follows.
+/// one goes only where what went and came on its link leaves that a credit of one, which each flow
+/// of the link states or gives back; it carries the first bytes that are left of the payload. So
+/// the frames of a publish carry the text of the image of its message, each byte once and in order,
+/// and all of it once one says that no more follows.
 pub fn publishes_are_lawful()
     ensures confirms { (s : SetupText) (c : Limits) (m : History) → Follows (pair_words s) c m
         → (p : ℕ) → Confirms (steps_of s (journal p m)) }
@@ -186,6 +188,8 @@ pub fn publishes_are_lawful()
         → (p : ℕ) → Transfers (steps_of s (journal p m)) }
     ensures credit { (s : SetupText) (c : Limits) (m : History) → Follows (pair_words s) c m
         → (p : ℕ) → CreditIsKept (steps_of s (journal p m)) }
+    ensures counts { (s : SetupText) (c : Limits) (m : History) → Follows (pair_words s) c m
+        → (p : ℕ) → CountsAreKept (steps_of s (journal p m)) }
     ensures pieces { (s : SetupText) (c : Limits) (m : History) → Follows (pair_words s) c m
         → (p : ℕ) → ArePieces (steps_of s (journal p m)) }
     ensures end { (s : SetupText) (c : Limits) (m : History) → Follows (pair_words s) c m
@@ -196,6 +200,7 @@ pub fn publishes_are_lawful()
     gate_model::returns_are_lawful();
     gate_model::transfers_are_lawful();
     gate_model::credit_is_kept();
+    gate_model::counts_are_kept();
     gate_model::payloads_are_whole();
 }
 

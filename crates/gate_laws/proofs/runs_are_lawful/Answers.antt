@@ -29,6 +29,7 @@ returns c = λ s l m f n. at s l (drop n m) (follows_to (pair_words s) l m n f)
         returns = c.publishes_are_lawful.ensures.returns s l m f p;
         transfers = c.publishes_are_lawful.ensures.transfers s l m f p;
         credit = c.publishes_are_lawful.ensures.credit s l m f p;
+        counts = c.publishes_are_lawful.ensures.counts s l m f p;
         reaches = c.publishes_reach_their_address.ensures.reaches s l m f p;
         numbers = c.publishes_reach_their_address.ensures.numbers s l m f p;
         pieces = c.publishes_are_lawful.ensures.pieces s l m f p;
