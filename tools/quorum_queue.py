@@ -8,10 +8,14 @@ import pika
 class QuorumQueue:
     """A queue that is made anew. A client names it behind the gateway by its address."""
 
-    def __init__(self, port, name, kind="quorum"):
+    def __init__(self, port, name, kind="quorum", dead=None):
+        """With another queue as `dead` what is rejected goes there."""
         self.port, self.name, self.address = port, name, f"/amq/queue/{name}"
+        arguments = {"x-queue-type": kind}
+        if dead:
+            arguments |= {"x-dead-letter-exchange": "", "x-dead-letter-routing-key": dead.name}
         self.delete()
-        self.ask(lambda channel: channel.queue_declare(name, durable=True, arguments={"x-queue-type": kind}))
+        self.ask(lambda channel: channel.queue_declare(name, durable=True, arguments=arguments))
 
     def ask(self, what):
         connection = pika.BlockingConnection(pika.ConnectionParameters("127.0.0.1", self.port, heartbeat=0))

@@ -15,7 +15,8 @@ The clients are `pika`, `amqp`, `go`, `php`, `bunny` and `java`, by the programs
   `requeue`, `none`, `get`).
   Each delivery must have its body, and the container must have seen exactly these outcomes, each of its message.
   With `--quorum` COMMAND is tools/watched_broker.py before a RabbitMQ whose port for AMQP 0-9-1 is PORT. Each queue is declared there
-  as a durable quorum queue, whose address is /amq/queue/NAME. Behind its consumer it must be empty, and is deleted.
+  as a durable quorum queue, whose address is /amq/queue/NAME. Behind its consumer it must be empty, and is deleted. What is
+  rejected goes to a second such queue, which must have each of these messages once.
 - send: each client publishes COUNT bodies of 0 to MOST bytes, TOTAL together or so, with confirms, and with twelve properties
   and four headers that are each message's own. Each must be in the container once with an equal body, properties and headers,
   where it was acked with the outcome accepted, told before the ack; and where it was nacked with another outcome, or none.
@@ -145,13 +146,24 @@ def judge_take(faults, how, bodies, said, told):
     return f"{len(lines)} came, {again} as redelivered; the container saw {dict(counts)}"
 
 
+def judge_dead(faults, bodies, letters):
+    """What was rejected, as the broker's queue of dead letters has it."""
+    counts = collections.Counter(hashlib.sha1(body).hexdigest() for body in letters)
+    wanted = collections.Counter(bodies.hashes.values())
+    faults.note("aren't dead letters, each once", sorted((wanted - counts).elements()))
+    faults.note("are dead letters that weren't rejected", sorted((counts - wanted).elements()))
+    print(f"  {len(letters)} dead letters", flush=True)
+
+
 def take(options, programs, port, log, folder, faults):
     bodies = Bodies(folder, [random.randrange(options.most + 1) for _ in range(options.count)])
     for name in options.client.split(","):
         for how in options.how.split(","):
-            queue = f"take-{name}-{how}"
-            quorum = QuorumQueue(options.quorum, queue) if options.quorum else None
-            queue = quorum.address if quorum else queue
+            queue, dead, quorum = f"take-{name}-{how}", None, None
+            if options.quorum:
+                dead = QuorumQueue(options.quorum, f"{queue}-dead") if how == "reject" else None
+                quorum = QuorumQueue(options.quorum, queue, dead=dead)
+                queue = quorum.address
             acks = sum(line.startswith("ack ") for line in programs.run("go", port, "send", queue, bodies.sizes, bodies.pool))
             faults.note("not published", range(options.count - acks))
             log.lines()
@@ -164,6 +176,9 @@ def take(options, programs, port, log, folder, faults):
             if quorum:
                 faults.note("are left in the queue", [f"{queue} {k}" for k in range(quorum.length())])
                 quorum.delete()
+            if dead:
+                judge_dead(faults, bodies, dead.taken())
+                dead.delete()
             faults.tell()
 
 
