@@ -4,6 +4,7 @@
     python3 tools/measure_load.py --rabbit PORT [--gateway 'COMMAND'] [--container 'COMMAND'] [--client NAME,NAME..]
                                   [--what WORD,WORD..] [--paths WORD,WORD..] [--size BYTES,BYTES..] [--count COUNT,COUNT..]
                                   [--window COUNT] [--prefetch COUNT] [--rounds COUNT] [--wait SECONDS] [--profile FOLDER]
+                                  [--quorum]
 
 RabbitMQ listens at PORT for both protocols, by its plugin for AMQP 1.0. The gateway is crates/amqp_gate/out/amqp_gate if no
 command names another. It is started twice: in front of the container, and in front of RabbitMQ. The container is
@@ -20,7 +21,10 @@ The clients are `c` and `go`, by tools/clients/load.c (rabbitmq-c) and load.go (
 |---|---|
 | `rabbit` | at RabbitMQ's own port; the queue isn't durable, and the messages are transient |
 | `container` | at the gateway in front of the container |
-| `plugin` | at the gateway in front of RabbitMQ; of deliveries only with a prefetch of 1, since RabbitMQ's plugin sends too much otherwise |
+| `plugin` | at the gateway in front of RabbitMQ; of deliveries only with a prefetch of 1, or `none` with `--quorum`, since RabbitMQ's plugin sends too much otherwise |
+
+With `--quorum` RabbitMQ's queue is a durable quorum queue, both at its own port and behind the gateway. There too its plugin may send
+too much of what isn't acked, and then a line says FAULT.
 
 For each client, kind, size and count the paths are taken in turn, `--rounds` times. Each run prints the messages a second, the
 processor time of the gateway a message (its threads' schedstat, which is utime and stime in nanoseconds) with the connection's
@@ -43,6 +47,7 @@ import sys
 import tempfile
 import time
 
+from quorum_queue import QuorumQueue
 from try_container import BUILT, CLIENTS, GO_PATH, ROOT, end, free_port, wait_for
 
 QUEUE = "load"
@@ -146,6 +151,8 @@ class Measure:
         self.options, self.programs, self.container, self.gateways = options, programs, container, gateways
         self.faults, self.found = 0, collections.defaultdict(list)
         self.counts = container and options.container is None
+        # A quorum queue is there before its clients come, which couldn't declare it as theirs.
+        self.environment = {**os.environ, "LOAD_PASSIVE": "1"} if options.quorum else None
 
     def fault(self, what):
         self.faults += 1
@@ -162,7 +169,8 @@ class Measure:
     def client(self, name, port, queue, *words):
         """What a client told: seconds, two counts and its processor seconds."""
         ran = subprocess.run(
-            [self.programs.clients[name], str(port), queue, *map(str, words)], capture_output=True, text=True, timeout=self.options.wait
+            [self.programs.clients[name], str(port), queue, *map(str, words)],
+            capture_output=True, text=True, timeout=self.options.wait, env=self.environment,
         )
         if ran.returncode:
             self.fault(f"{name} {words}: status {ran.returncode}: {ran.stderr.strip()[-300:]}")
@@ -203,6 +211,8 @@ class Measure:
         """How many messages the queue has."""
         if path == "container":
             return told.get("left", -1) if self.counts else None
+        if self.options.quorum:
+            time.sleep(2)  # its count is renewed each second or so
         said = self.client(name, self.options.rabbit, QUEUE, "count")
         return said and said[1]
 
@@ -219,17 +229,24 @@ class Measure:
         return run, told
 
     def consumed(self, name, path, label, count, size, how):
-        _, told = self.published(name, path, f"{label} filled", count, size, QUEUE)
+        queue = self.queue_at(path)
+        _, told = self.published(name, path, f"{label} filled", count, size, queue)
         self.check(f"{label} {path}: before", self.waiting(name, path, told), count)
-        run, told = self.timed(name, path, QUEUE, label, "consume", count, size, self.options.prefetch, how)
+        run, told = self.timed(name, path, queue, label, "consume", count, size, self.options.prefetch, how)
         self.check(f"{label} {path}: after", self.waiting(name, path, told), 0)
         if path == "container" and self.counts:
             self.check(f"{label} {path}: accepted", told.get("accepted"), count)
         return run
 
+    def queue_at(self, path):
+        """What the queue is called on a path."""
+        return self.quorum.address if self.options.quorum and path == "plugin" else QUEUE
+
     def one(self, name, path, what, count, size, label):
+        if self.options.quorum and path != "container":
+            self.quorum = QuorumQueue(self.options.rabbit, QUEUE)
         if what == "publish":
-            queue = "discard" if path == "container" and self.counts else QUEUE
+            queue = "discard" if path == "container" and self.counts else self.queue_at(path)
             run, _ = self.published(name, path, label, count, size, queue)
         else:
             run = self.consumed(name, path, label, count, size, what)
@@ -277,7 +294,8 @@ class Measure:
     def round(self, name, what, count, size):
         label = f"{count} of {size} bytes {what}, {name}"
         for path in self.options.paths.split(","):
-            if path != "plugin" or what == "publish" or self.options.prefetch == 1:
+            is_kept = self.options.prefetch == 1 or what == "none" and self.options.quorum
+            if path != "plugin" or what == "publish" or is_kept:
                 self.tell(label, path, self.one(name, path, what, count, size, label))
 
     def table(self):
@@ -305,6 +323,7 @@ def options_of():
     parser.add_argument("--rounds", type=int, default=3)
     parser.add_argument("--wait", type=int, default=300)
     parser.add_argument("--profile")
+    parser.add_argument("--quorum", action="store_true")
     return parser.parse_args()
 
 

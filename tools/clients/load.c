@@ -136,7 +136,8 @@ int main(int argc, char **argv) {
   if (argc < 4) return 2;
   connect_to(atoi(argv[1]));
   queue = amqp_cstring_bytes(argv[2]);
-  amqp_queue_declare_ok_t *declared = amqp_queue_declare(connection, 1, queue, 0, 0, 0, 0, amqp_empty_table);
+  int passive = getenv("LOAD_PASSIVE") != NULL;
+  amqp_queue_declare_ok_t *declared = amqp_queue_declare(connection, 1, queue, passive, 0, 0, 0, amqp_empty_table);
   check_reply("a queue", amqp_get_rpc_reply(connection));
   unsigned long found = declared->message_count;
   double before = processor_seconds();

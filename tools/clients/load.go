@@ -4,7 +4,8 @@
 //	load PORT QUEUE consume COUNT SIZE PREFETCH each|multiple|none
 //	load PORT QUEUE count|delete
 //
-// The queue is declared, not durable; with consume it must have the COUNT messages that a publish put there. publish asks for
+// The queue is declared, not durable, or passively if LOAD_PASSIVE is set; with consume it must have the COUNT messages that a
+// publish put there. publish asks for
 // confirms, has at most WINDOW publishes without one, and prints the seconds that passed, and how many were acked and nacked.
 // consume acks each message, or with multiple each fifth part of the prefetch, or consumes without acks. It prints the seconds
 // until the last message was got and acked, how many came, and how many of them weren't the next one of its size, or
@@ -126,7 +127,11 @@ func main() {
 	check(err)
 	channel, err := connection.Channel()
 	check(err)
-	declared, err := channel.QueueDeclare(queue, false, false, false, false, nil)
+	declare := channel.QueueDeclare
+	if os.Getenv("LOAD_PASSIVE") != "" {
+		declare = channel.QueueDeclarePassive
+	}
+	declared, err := declare(queue, false, false, false, false, nil)
 	check(err)
 	before := processorSeconds()
 	switch verb {
