@@ -125,6 +125,7 @@ pub mod Turning
 pub mod Ups
 pub mod Waiters
 pub mod Waits
+pub mod Walks
 pub mod Wholes
 pub mod Widths
 pub mod Writing
