@@ -124,8 +124,11 @@ pub mod Times
 pub mod Turning
 pub mod Ups
 pub mod Waiters
+pub mod WaitingGets
 pub mod Waits
 pub mod Walks
 pub mod Wholes
 pub mod Widths
+pub mod Wishes
+pub mod Wishing
 pub mod Writing

@@ -369,14 +369,14 @@ grown x s ds r a = by x (arrives x) refl
     by x false e = quiet x (event_none s x e)
 
 -- a link that is to part
-parts_kept : (C : ℕ → Type 0) → IsKept (λ l. (l.receives && is_to_part l) ≡ true → C l.link)
+pub parts_kept : (C : ℕ → Type 0) → IsKept (λ l. (l.receives && is_to_part l) ≡ true → C l.link)
 parts_kept C = record {
   free = λ l e f. absurd (let wrong : true ≡ false = sym (and_right l.receives (is_to_part l) f) ∙ e in cc);
   told = λ drain echo l t. t;
   once = λ l t. t;
 }
 
-suits : (C : ℕ → Type 0) (s : PathState) (x : PathEvent) → Fits C s x → Suits (λ l. (l.receives && is_to_part l) ≡ true → C l.link) s x
+pub suits : (C : ℕ → Type 0) (s : PathState) (x : PathEvent) → Fits C s x → Suits (λ l. (l.receives && is_to_part l) ≡ true → C l.link) s x
 suits C s (event.DetachCame peer not_found) f = λ l e g part. f l e (and_left l.receives _ part) g
 suits C s (event.LinkFailed peer fault) f = absurd f
 suits C s x f = tt

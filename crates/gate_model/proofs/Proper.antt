@@ -118,7 +118,7 @@ quiet_proper s (event.DeliverSent d) e = absurd cc
 quiet_proper s (event.OkSent x) e = absurd cc
 quiet_proper s x e = tt
 
-no_request : (s : PathState) → is_waiting s ≡ false → s.awaited ≡ None
+pub no_request : (s : PathState) → is_waiting s ≡ false → s.awaited ≡ None
 no_request s e = by s.awaited (left_false (is_some s.awaited) (is_get_awaited s.deliveries) e)
   where
     by : (o : Option Awaited) → is_some o ≡ false → o ≡ None
@@ -135,13 +135,16 @@ module _ (below : LivesBelow) (n life : ℕ) (h : List Step) (l : path_life h n 
   still : OfQuiet (λ (b : List PathEvent). IsProper (after_events life b))
   still b x e = quiet_proper (after_events life b) x e
 
-  -- what is taken up
-  free : (u : Unit91) (m : Method91) → MayTake h u → want_in (routes_in h) (paths_in h) (connection h) u ≡ want.Method n m → (after_events life es).awaited ≡ None
-  free u m t is =
+  -- what is taken up comes while no request waits
+  pub none_waits : (u : Unit91) (m : Method91) → MayTake h u → want_in (routes_in h) (paths_in h) (connection h) u ≡ want.Method n m → is_waiting (after_events life es) ≡ false
+  none_waits u m t is =
       let o = (client_own (routes_in h) (paths_in h) (connection h) u).holds n m is in
       let here : channel_of u ≡ n = sym (same_channel u) ∙ o.0 in
       let none = t.own life (runs_on (connection h) o.1) (ap (path_life h) here ∙ l) in
-      no_request (after_events life es) (subst (λ (k : ℕ). is_waiting (after_events life (path_events h k)) ≡ false) here (none.asks life (ap (path_life h) here ∙ l)))
+      subst (λ (k : ℕ). is_waiting (after_events life (path_events h k)) ≡ false) here (none.asks life (ap (path_life h) here ∙ l))
+
+  free : (u : Unit91) (m : Method91) → MayTake h u → want_in (routes_in h) (paths_in h) (connection h) u ≡ want.Method n m → (after_events life es).awaited ≡ None
+  free u m t is = no_request (after_events life es) (none_waits u m t is)
 
   named : (m : Method91) → (after_events life es).awaited ≡ None → names m ≡ true → On (method_events m)
   named (method.BasicConsume queue tag no_local no_ack exclusive no_wait arguments) f e = (f, tt)

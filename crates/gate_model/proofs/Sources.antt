@@ -80,7 +80,7 @@ QueuesAre = (life : ℕ) (es : List PathEvent) → (after_events life es).queue 
 
 -- ---- the addresses of a path
 
-abbrev has : ℕ → List Source → Bool
+abbrev pub has : ℕ → List Source → Bool
 has k xs = is_some (find (is_source_of k) xs)
 
 found_push : (k : ℕ) (xs : List Source) (y : Source) → find (is_source_of k) (xs ++ y ∷ []) ≡ option_or (find (is_source_of k) xs) (cond (y.link == k) (Some y) None)
@@ -92,7 +92,7 @@ found_push k (x ∷ xs) y = by (x.link == k) (found_push k xs y)
     by true e = refl
     by false e = e
 
-found_without : (j k : ℕ) (xs : List Source) → find (is_source_of k) (without_source j xs) ≡ (if k == j then None else find (is_source_of k) xs)
+pub found_without : (j k : ℕ) (xs : List Source) → find (is_source_of k) (without_source j xs) ≡ (if k == j then None else find (is_source_of k) xs)
 found_without j k [] = by (k == j)
   where
     by : (b : Bool) → find (is_source_of k) [] ≡ (if b then None else find (is_source_of k) [])
@@ -111,12 +111,12 @@ found_without j k (x ∷ xs) = by (x.link == j) (x.link == k) (k == j) refl refl
 
 -- ---- they are those of the receiving links that the gateway didn't detach
 
-record Goes (ls : List PathLink) (xs : List Source) (closed : Bool) (wanted : ℕ → List ℕ) : Type 0 where
-  there : (k : ℕ) → takes k ls ≡ true → has k xs ≡ true
+pub record Goes (ls : List PathLink) (xs : List Source) (closed : Bool) (wanted : ℕ → List ℕ) : Type 0 where
+  pub there : (k : ℕ) → takes k ls ≡ true → has k xs ≡ true
   known : closed ≡ false → (k : ℕ) → has k xs ≡ true → takes k ls ≡ true
   address : (k : ℕ) (x : Source) → find (is_source_of k) xs ≡ Some x → x.address ≡ wanted k
 
-abbrev GoesOn : ℕ → PathState → List PathEvent → Type 0
+abbrev pub GoesOn : ℕ → PathState → List PathEvent → Type 0
 GoesOn life s es = Goes s.links.links s.sources s.deliveries.closed (λ k. wanted_for life k es)
 
 -- an event that leaves the numbers, and wants no link
@@ -181,7 +181,7 @@ added s xs closed address wanted after tied open_yet says g = record {
 
 -- ---- what leaves the addresses
 
-attach_sources : (o : Option PathLink) (a : AttachHeard) (s : PathState) → (begun_if o a s).sources ≡ s.sources
+pub attach_sources : (o : Option PathLink) (a : AttachHeard) (s : PathState) → (begun_if o a s).sources ≡ s.sources
 attach_sources None a s = refl
 attach_sources (Some l) a s = by (l.receives && a.there)
   where
@@ -189,20 +189,20 @@ attach_sources (Some l) a s = by (l.receives && a.there)
     by true = refl
     by false = refl
 
-flow_sources : (o : Option PathLink) (peer : ℕ) (count : Option ℕ) (credit : ℕ) (drain echo : Bool) (s : PathState) → (flowed_by o peer count credit drain echo s).sources ≡ s.sources
+pub flow_sources : (o : Option PathLink) (peer : ℕ) (count : Option ℕ) (credit : ℕ) (drain echo : Bool) (s : PathState) → (flowed_by o peer count credit drain echo s).sources ≡ s.sources
 flow_sources None peer count credit drain echo s = refl
 flow_sources (Some l) peer count credit drain echo s = refl
 
-transfer_sources : (o : Option PathLink) (part : Part) (payload : List ℕ) (image : Option Content) (again : Bool) (s : PathState) → (transferred_on o part payload image again s).sources ≡ s.sources
+pub transfer_sources : (o : Option PathLink) (part : Part) (payload : List ℕ) (image : Option Content) (again : Bool) (s : PathState) → (transferred_on o part payload image again s).sources ≡ s.sources
 transfer_sources None part payload image again s = refl
 transfer_sources (Some l) part payload image again s = refl
 
-granted_sources : (b : Bool) (o : Option NextGrant) (s t : PathState) → t.sources ≡ s.sources → (if b then granted_by o s else t).sources ≡ s.sources
+pub granted_sources : (b : Bool) (o : Option NextGrant) (s t : PathState) → t.sources ≡ s.sources → (if b then granted_by o s else t).sources ≡ s.sources
 granted_sources true None s t e = refl
 granted_sources true (Some g) s t e = refl
 granted_sources false o s t e = e
 
-disposed_sources : (o : Option NextSettle) (s : PathState) → (disposed_by o s).sources ≡ s.sources
+pub disposed_sources : (o : Option NextSettle) (s : PathState) → (disposed_by o s).sources ≡ s.sources
 disposed_sources None s = refl
 disposed_sources (Some x) s = refl
 
@@ -341,7 +341,7 @@ module _ (deliveries : DeliveriesAre) (shut : ClosedAre) (tied : LinksAre) (queu
       by event.UpLost h = record { there = λ k t. absurd cc; known = λ c. absurd cc; address = g.address }
       by y h = calm y es refl (λ k. refl) (λ k. refl) g
 
-  goes : (es : List PathEvent) → AreHeard life es → GoesOn life (after_events life es) es
+  pub goes : (es : List PathEvent) → AreHeard life es → GoesOn life (after_events life es) es
   goes [] heard = record { there = λ k t. absurd cc; known = λ c k e. absurd cc; address = λ k x e. absurd cc }
   goes (x ∷ es) heard = step x es heard.0 (goes es heard.1)
 
@@ -354,7 +354,7 @@ address_is ls xs closed wanted k g t = by (find (is_source_of k) xs) refl
     by None e = absurd (clash _ (g.there k t) (ap is_some e))
     by (Some x) e = g.address k x e
 
-found_takes : (p : PathLink → Bool) (ls : List PathLink) (l : PathLink) → find p ls ≡ Some l → is_taking l ≡ true → takes l.link ls ≡ true
+pub found_takes : (p : PathLink → Bool) (ls : List PathLink) (l : PathLink) → find p ls ≡ Some l → is_taking l ≡ true → takes l.link ls ≡ true
 found_takes p ls l e is = any_found p (takes_one l.link) ls l e (takes_itself l is)
 
 -- ---- the kind of a link

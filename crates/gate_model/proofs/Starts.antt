@@ -67,11 +67,11 @@ use Rattle.gate_model.proofs.Standing.{on_such, suits}
 
 -- ---- answers, each with the name that it gives back
 
-abbrev is_named : PathOk → Bool
+abbrev pub is_named : PathOk → Bool
 is_named x = gives_name (Some x)
 
 -- each that gives a name has one
-abbrev are_even : List PathOk → List (List ℕ) → Bool
+abbrev pub are_even : List PathOk → List (List ℕ) → Bool
 are_even [] [] = true
 are_even [] (n ∷ ns) = false
 are_even (x ∷ xs) [] = if is_named x then false else are_even xs []
@@ -303,7 +303,7 @@ steady s event.UpLost m e = absurd cc
 steady s x m e = alike s _ refl refl refl
 
 -- the answer to a get gives no name
-get_first : (o : Option PathOk) → is_get_ok o ≡ true → o ≡ Some ok.Get
+pub get_first : (o : Option PathOk) → is_get_ok o ≡ true → o ≡ Some ok.Get
 get_first None e = absurd cc
 get_first (Some x) e = ap Some (by x e)
   where
@@ -314,7 +314,7 @@ get_first (Some x) e = ap Some (by x e)
 more_even : (s t : PathState) → Adds s t → are_even s.oks s.names ≡ true → are_even t.oks t.names ≡ true
 more_even s t a e = ap (λ (xs : List PathOk). are_even xs t.names) a.oks ∙ ap (are_even (s.oks ++ a.xs)) a.names ∙ even_both s.oks a.xs s.names a.ms e a.even
 
-abbrev IsEven : PathState → Type 0
+abbrev pub IsEven : PathState → Type 0
 IsEven s = are_even s.oks s.names ≡ true
 
 -- a get-ok takes its own place alone
@@ -328,7 +328,7 @@ served_oks s d e P same less = by d.get refl
 unnamed_get : (o : Option PathOk) (ns : List (List ℕ)) → o ≡ Some ok.Get → (if gives_name o then drop 1 ns else ns) ≡ ns
 unnamed_get o ns e = ap (λ (x : Option PathOk). if gives_name x then drop 1 ns else ns) e
 
-evens : (life : ℕ) (es : List PathEvent) → AllHold IsProper life es → IsEven (after_events life es)
+pub evens : (life : ℕ) (es : List PathEvent) → AllHold IsProper life es → IsEven (after_events life es)
 evens life [] m = refl
 evens life (x ∷ es) m = by x m.0 (evens life es m.1)
   where

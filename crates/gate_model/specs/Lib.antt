@@ -56,4 +56,5 @@ pub mod Takes
 pub mod Times
 pub mod Upstream
 pub mod Waiting
+pub mod Wishes
 pub mod Words

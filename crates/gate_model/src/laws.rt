@@ -61,6 +61,7 @@ ghost use Rattle.gate_model.specs.Takes.{TakesInTurn};
 ghost use Rattle.gate_model.specs.Times.{BeatsAtOnce, BeatsWhenDue, LateCloses, ShutsAtOnce};
 ghost use Rattle.gate_model.specs.Waiting.{ChannelsEndWhenSettled, EndsWhenSettled};
 ghost use Rattle.gate_model.specs.Waiting.{OpensWhenOpened};
+ghost use Rattle.gate_model.specs.Wishes.{MeetsWishes};
 
 use consume_path::{
     counts_lawfully, delivers_lawfully, delivery_lines_lawfully, ids_lawfully,
@@ -416,6 +417,22 @@ pub fn requests_are_answered()
 {
     connection_laws();
     answers_lawfully();
+}
+
+/// While a channel's life goes on the answers that went met the first of what its requests wish for,
+/// in the order in which these were taken up, each once. A basic.consume-ok gives back the tag that
+/// its own basic.consume asked for, or that was made for it; a basic.cancel-ok and a
+/// queue.declare-ok the name in their own requests; and a basic.get has one basic.get-ok or
+/// get-empty. A request with no-wait has none.
+pub fn wishes_are_met()
+    ensures { (h : List Step) → ArePicks h → MeetsWishes h }
+{
+    connection_laws();
+    links_lawfully();
+    deliveries_lawfully();
+    calls_lawfully();
+    numbers_lawfully();
+    names_lawfully();
 }
 
 /// A queue.declare-ok goes only where the container attached the link of its queue.declare, with a

@@ -30,7 +30,7 @@ pub use laws::{
     releases_are_lawful, replies_wait, requests_are_answered, requests_hold_what_follows,
     returns_are_lawful, sessions_end_once, sessions_get_what_is_due, settles_are_lawful,
     silent_ends_are_given_up, states_are_known, times_are_kept, transfers_are_lawful,
-    units_are_recorded, units_are_short, units_keep_their_order,
+    units_are_recorded, units_are_short, units_keep_their_order, wishes_are_met,
 };
 pub use life::{Life, SessionState};
 pub use limits::{HANDLE_MAX, HELD_BYTES, HELD_PUBLISHES, QUEUE_BYTES, QUEUE_UNITS};
