@@ -54,6 +54,7 @@ use Rattle.gate_model.specs.State.{owed_lines}
 use Rattle.gate_model.specs.Takers.{TakesAsAsked}
 use Rattle.gate_model.specs.Takes.{TakesInTurn}
 use Rattle.gate_model.specs.Waiting.{ChannelsEndWhenSettled, EndsWhenSettled, OpensWhenOpened}
+use Rattle.gate_model.specs.Wishes.{MeetsWishes}
 use Rattle.gate_pair.specs.Answers.{IsAnswered}
 use Rattle.gate_pair.specs.Lawful.{AreLawful}
 use Rattle.gate_pair.specs.Meaning.{pair_words, state_of, steps_of}
@@ -76,6 +77,8 @@ pub record IsLawfulPair (s : SetupText) (h : List Entry) : Type 0 where
   -- queue was found
   pub once : AnswersOnce (steps_of s h)
   pub requests : AnswersInOrder (steps_of s h)
+  -- what went is what its own request wished for: a basic.consume its tag, a basic.get one answer
+  pub met : MeetsWishes (steps_of s h)
   pub declared : DeclaresFound (steps_of s h)
   -- nothing of a channel is taken up while its request waits
   pub turns : TakesInTurn (steps_of s h)

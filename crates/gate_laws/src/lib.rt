@@ -50,6 +50,7 @@ ghost use Rattle.gate_model.specs.Takers.{TakesAsAsked};
 ghost use Rattle.gate_model.specs.Takes.{TakesInTurn};
 ghost use Rattle.gate_model.specs.Waiting.{ChannelsEndWhenSettled, EndsWhenSettled};
 ghost use Rattle.gate_model.specs.Waiting.{OpensWhenOpened};
+ghost use Rattle.gate_model.specs.Wishes.{MeetsWishes};
 ghost use Rattle.gate_pair.specs.Answers.{IsAnswered};
 ghost use Rattle.gate_pair.specs.Lawful.{AreLawful};
 ghost use Rattle.gate_pair.specs.Meaning.{pair_words, state_of, steps_of};
@@ -118,13 +119,19 @@ pub fn laden_pairs_wait()
 }
 
 /// The answers to a channel's requests go in the order of the requests, each once: those that went
-/// in the life in progress and those that are due are those that became due.
+/// in the life in progress and those that are due are those that became due. While the life goes on
+/// those that went met the first of what the requests wish for: a basic.consume-ok has the tag of
+/// its own basic.consume, a basic.cancel-ok and a queue.declare-ok the name in their own requests,
+/// and a basic.get has one answer.
 pub fn requests_are_answered()
-    ensures { (s : SetupText) (c : Limits) (m : History) → Follows (pair_words s) c m → (p : ℕ)
-        → AnswersInOrder (steps_of s (journal p m)) }
+    ensures order { (s : SetupText) (c : Limits) (m : History) → Follows (pair_words s) c m
+        → (p : ℕ) → AnswersInOrder (steps_of s (journal p m)) }
+    ensures met { (s : SetupText) (c : Limits) (m : History) → Follows (pair_words s) c m
+        → (p : ℕ) → MeetsWishes (steps_of s (journal p m)) }
 {
     entries_are_lawful();
     gate_model::requests_are_answered();
+    gate_model::wishes_are_met();
 }
 
 /// Nothing of a channel is taken up while its request waits for the container, nor anything while
