@@ -48,7 +48,7 @@ use Rattle.gate_model.specs.Hears.{asked_as}
 use Rattle.gate_model.specs.LinkCredits.{Answered, Asked, Begun, Credit, CreditIsKept, Flowed, HasCredit, LinkStep, MayBegin, Told}
 use Rattle.gate_model.specs.LinkCredits.{after_step, answer_step, begun, credit_by, given_step, heard_step, link_step, link_steps, meaning_step, new_credit, told, up_step}
 use Rattle.gate_model.specs.Lives.{life_at}
-use Rattle.gate_model.specs.Paths.{attach_fault_by, attach_out, credit_of, fault_by, flow_out, heard_as, name_in, or_no_path, path_at, slot_at, text_of, transfer_error, transfer_of}
+use Rattle.gate_model.specs.Paths.{attach_fault_by, attach_out, credit_of, fault_by, flow_out, heard_as, is_attached, name_in, or_no_path, path_at, slot_at, text_of, transfer_error, transfer_of}
 use Rattle.gate_model.specs.Picks.{ArePicks}
 use Rattle.gate_model.specs.Publishing.{attach_events, closed_if, closing, ending, fine_events, given_event, heard_events, meaning_events, opens_channel, path_events}
 use Rattle.gate_model.specs.Publishing.{path_life, session_events, step_events, up_events}
@@ -252,7 +252,7 @@ module _ (P : List LinkStep → LinksState → Type 0) (r : Rules P) (n life : �
       abbrev last_scope : Option Scope
       last_scope =
           if q.0 == 20 then transfer_scope (transfer_error q.1 payload ((peers h).carried n) s0)
-          else if q.0 == 22 then unattached (is_some (named (number_at q.1 0) s0.links))
+          else if q.0 == 22 then unattached (is_attached (number_at q.1 0) s0)
           else None
 
       attach_agrees : (o : Option ℕ) → name_in (text_of (field q.1 0)) ≡ o → fault_by o q.1 s ≡ None → Agrees ((answer_step o (number_at q.1 1)) ++ link_steps n h) (attach_events o q.1 ++ es)
@@ -293,7 +293,7 @@ module _ (P : List LinkStep → LinksState → Type 0) (r : Rules P) (n life : �
           no_attach_fault e =
               subst (λ (x : PathState). attach_fault_by q.1 x ≡ None) there
               (no_fault (attach_fault_by q.1 s0) (sym (ap (λ (b : Bool). if b then attach_scope (attach_fault_by q.1 s0)
-              else if (q.0 == 19) && not (is_of_session q.1) then unattached (is_some (named (number_at q.1 4) s0.links)) else last_scope) e) ∙ fine))
+              else if (q.0 == 19) && not (is_of_session q.1) then unattached (is_attached (number_at q.1 4) s0) else last_scope) e) ∙ fine))
 
       session_agrees : (o : Option Scope) → scope_in (peers h) n q payload ≡ o → Agrees ((heard_step q) ++ link_steps n h) (session_events (connection h) o n n q payload (path_at (paths_in h) n) ++ es)
       session_agrees None e = by (n == n) refl

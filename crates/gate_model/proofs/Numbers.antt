@@ -1,7 +1,7 @@
 -- There are 256 paths, and what a performative of no channel of these closes doesn't rest on its session.
 use Rattle.std.proofs.Common.{◌≡◌, ◌⊎◌, ◌<◌, ◌≤◌, ℕ, zero, suc, ◌==◌, Bool, true, false, List, [], ◌∷◌}
 use Rattle.std.proofs.Common.{length, map, option_map, ◌+◌, Option, None, Some, refl, sym, ap, ◌∙◌, subst, arith, inl, inr}
-use Rattle.std.proofs.Common.{if◌then◌else◌, not, ◌&&◌}
+use Rattle.std.proofs.Common.{if◌then◌else◌, not, ◌&&◌, ◌||◌}
 use Rattle.gate_outside.specs.declared.ports.End.TheVariants.{Client, Up}
 use Rattle.gate_outside.specs.declared.ports.Linked.TheVariants as link
 use Rattle.gate_relay.specs.declared.loss.Loss.TheVariants as loss
@@ -18,7 +18,6 @@ use Rattle.methods_091.specs.declared.method.Method91.{Method91}
 use Rattle.methods_091.specs.declared.method.Method91.TheVariants as method
 use Rattle.performatives_10.specs.declared.condition.Condition.{Condition}
 use Rattle.performatives_10.specs.declared.condition.Condition.TheVariants.{UnattachedHandle, WindowViolation}
-use Rattle.session_path.specs.Links.{named}
 use Rattle.session_path.specs.Path.{PathState, opened}
 use Rattle.gate_model.specs.declared.life.SessionState.{SessionState}
 use Rattle.gate_model.specs.declared.outgoing.Outgoing.TheVariants.{ToClient, ToUp}
@@ -30,7 +29,7 @@ use Rattle.gate_model.specs.declared.setup.Route.{Route}
 use Rattle.gate_model.specs.Folds.{Peers, carried_on, ended_on, leaving_in, paths_in, peers_parted}
 use Rattle.gate_model.specs.Folds.{peers, peers_by, peers_came, peers_closed, peers_heard, peers_left, peers_scoped, ran_out_in, scope_in}
 use Rattle.gate_model.specs.Lives.{is_of_channel}
-use Rattle.gate_model.specs.Paths.{attach_fault_by, closed_path, closed_paths, fault_in, field_error, is_receiver}
+use Rattle.gate_model.specs.Paths.{attach_fault_by, closed_path, closed_paths, fault_in, field_error, has_left, is_attached, is_receiver}
 use Rattle.gate_model.specs.Paths.{lost_path, or_no_path, path_at, slot_at, with_path}
 use Rattle.gate_model.specs.Session.{has_room, is_of_session}
 use Rattle.gate_model.specs.Folds.{connection}
@@ -141,25 +140,26 @@ many_paths (s ∷ h) = each_many _ (paths_in h) (many_paths h)
 
 -- ---- what a performative closes, where its channel has no path
 
--- one that names no receiving link, and that a transfer must name
+-- one that names no link, where a transfer must name one
 past : (a r : Bool) (o : Option Condition) → r ≡ false
     → transfer_scope (if not a then Some WindowViolation else if not r then Some UnattachedHandle else o) ≡ Some scope.Channel
 past true true o e = absurd cc
 past true false o e = refl
 past false r o e = refl
 
-scope_alone : (q : Parts) (payload : List ℕ) (x y : SessionState) (s : PathState) → is_receiver (number_at q.1 0) s ≡ false
+scope_alone : (q : Parts) (payload : List ℕ) (x y : SessionState) (s : PathState) → (is_receiver (number_at q.1 0) s || has_left (number_at q.1 0) s) ≡ false
     → link_scope q payload x s ≡ link_scope q payload y s
 scope_alone q payload x y s none =
     let other : Option Condition = field_error (fault_in q.1 payload s) in
-    ap closes (past (has_room x) (is_receiver (number_at q.1 0) s) other none ∙ sym (past (has_room y) (is_receiver (number_at q.1 0) s) other none))
+    let names : Bool = is_receiver (number_at q.1 0) s || has_left (number_at q.1 0) s in
+    ap closes (past (has_room x) names other none ∙ sym (past (has_room y) names other none))
   where
     closes : Option Scope → Option Scope
     closes o =
         if q.0 == 18 then attach_scope (attach_fault_by q.1 s)
-        else if q.0 == 19 && not (is_of_session q.1) then unattached (is_some (named (number_at q.1 4) s.links))
+        else if q.0 == 19 && not (is_of_session q.1) then unattached (is_attached (number_at q.1 4) s)
         else if q.0 == 20 then o
-        else if q.0 == 22 then unattached (is_some (named (number_at q.1 0) s.links))
+        else if q.0 == 22 then unattached (is_attached (number_at q.1 0) s)
         else None
 
 none_beyond : (ps : List (Option PathState)) (n : ℕ) → length ps ≤ n → slot_at ps n ≡ None

@@ -27,6 +27,7 @@ use Rattle.performatives_10.specs.declared.condition.Condition.{Condition}
 use Rattle.performatives_10.specs.declared.condition.Condition.TheVariants as condition
 use Rattle.property_map.specs.Received.{received_in}
 use Rattle.property_map.specs.declared.received.Received.{Received}
+use Rattle.link_table.specs.Table.{named_by}
 use Rattle.session_path.specs.Due.{joined_at, queue_at}
 use Rattle.session_path.specs.Links.{named}
 use Rattle.session_path.specs.Path.{closed, failed, receiver_in, transfer_came, transfer_fault}
@@ -222,10 +223,20 @@ part_in ts = record {
   resume = is_true (field ts 8);
 }
 
--- the handle names a receiving link, and what is wrong with the transfer on that
+-- a handle of the container is attached until both detaches went (AMQP 1.0 2.6.2)
+abbrev pub is_attached : ℕ → PathState → Bool
+is_attached peer s = is_some (named_by s.links.handles peer)
+
+-- it names a receiving link
 abbrev pub is_receiver : ℕ → PathState → Bool
 is_receiver peer s = is_some (receiver_in (named peer s.links))
 
+-- it names no link any more, since the container detached: what comes under it is passed over until
+-- the gateway's detach went (AMQP 1.0 2.6.6)
+abbrev pub has_left : ℕ → PathState → Bool
+has_left peer s = is_attached peer s && not (is_some (named peer s.links))
+
+-- what is wrong with the transfer on a receiving link
 abbrev pub fault_in : List Tree → List ℕ → PathState → Option TransferFault
 fault_in ts payload s = transfer_fault (number_at ts 0) (part_in ts) (length payload) s
 
@@ -235,11 +246,13 @@ field_error (Some InvalidField) = Some condition.InvalidField
 field_error (Some LimitExceeded) = None
 field_error (Some SizeExceeded) = None
 
--- why it ends its session: it is past the window, of no receiving link, or has a wrong field
+-- why it ends its session: it is past the window, of a sending link or of none, or has a wrong
+-- field
 abbrev pub transfer_error : List Tree → List ℕ → SessionState → PathState → Option Condition
 transfer_error ts payload x s =
     if not (has_room x) then Some condition.WindowViolation
-    else if not (is_receiver (number_at ts 0) s) then Some condition.UnattachedHandle
+    else if not (is_receiver (number_at ts 0) s || has_left (number_at ts 0) s) then
+    Some condition.UnattachedHandle
     else field_error (fault_in ts payload s)
 
 -- what goes to the client of a message, where the client takes frames of so many bytes

@@ -70,7 +70,6 @@ use Rattle.machine_10.specs.Session.{after_flow_sent, after_sent}
 use Rattle.performatives_10.specs.declared.condition.Condition.TheVariants as condition
 use Rattle.performatives_10.specs.declared.condition.Condition.TheVariants.{UnattachedHandle}
 use Rattle.session_path.specs.Path as session
-use Rattle.session_path.specs.Links.{named}
 use Rattle.session_path.specs.declared.path.AttachFault.{AttachFault}
 use Rattle.session_path.specs.declared.path.AttachFault.TheVariants.{HandleInUse, NotAsked}
 use Rattle.session_path.specs.Path.{PathState}
@@ -86,7 +85,7 @@ use Rattle.gate_model.specs.declared.channel.SessionUnit.TheVariants as unit
 use Rattle.gate_model.specs.declared.life.SessionState.{SessionState}
 use Rattle.gate_model.specs.Lives.{is_of_channel}
 use Rattle.gate_model.specs.Paths.{attach_by, attach_fault_by, closed_path, closed_paths, fault_in}
-use Rattle.gate_model.specs.Paths.{is_laden, lines_in, link_flowed}
+use Rattle.gate_model.specs.Paths.{is_attached, is_laden, lines_in, link_flowed}
 use Rattle.gate_model.specs.Paths.{is_not_found, lost_path, lost_paths, told_paths}
 use Rattle.gate_model.specs.Paths.{no_paths, outcome_by, path_at, set_path}
 use Rattle.gate_model.specs.Paths.{transfer_error, transferred, with_path}
@@ -527,8 +526,8 @@ begun_session n w = record w { lives = with_life n (begun_life (life_at w.lives 
 
 -- what one closes that is wrong (AMQP 1.0 2.5.6, 2.6.2, 2.6.3, 2.6.7, 2.7.5): an attach under a
 -- name that isn't asked for with the other role, or with a handle in use, the connection; a flow or
--- a detach of no link, and a transfer past the window, of no receiving link, or with a wrong field,
--- the channel
+-- a detach of a handle that isn't attached, and a transfer past the window, of a sending link or of
+-- none, or with a wrong field, the channel
 abbrev pub unattached : Bool → Option Scope
 unattached true = None
 unattached false = Some scope.Channel
@@ -544,10 +543,9 @@ transfer_scope (Some c) = Some scope.Channel
 abbrev pub link_scope : Parts → List ℕ → SessionState → PathState → Option Scope
 link_scope p payload x s =
     if p.0 == 18 then attach_scope (attach_fault_by p.1 s)
-    else if p.0 == 19 && not (is_of_session p.1) then
-    unattached (is_some (named (number_at p.1 4) s.links))
+    else if p.0 == 19 && not (is_of_session p.1) then unattached (is_attached (number_at p.1 4) s)
     else if p.0 == 20 then transfer_scope (transfer_error p.1 payload x s)
-    else if p.0 == 22 then unattached (is_some (named (number_at p.1 0) s.links))
+    else if p.0 == 22 then unattached (is_attached (number_at p.1 0) s)
     else None
 
 -- and with which error
