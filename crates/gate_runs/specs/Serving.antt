@@ -107,13 +107,20 @@ is_shutting (Call (Shut p end)) = true
 is_shutting (Finish how) = true
 is_shutting x = false
 
+-- a sink failed
+abbrev pub is_sink_fault : Served → Bool
+is_sink_fault (Fault outside.Out) = true
+is_sink_fault (Fault outside.Capture) = true
+is_sink_fault x = false
+
 -- out failed at the lines of a mark, since which ends were shut and nothing else was done; or at
--- the last line
+-- the last line, which says how the service ended unless a sink failed after that
 pub data OutFailed (w : RelayWords) (base held : Option (List ℕ)) (m : History) : Type 0 where
   AtLines : (before after : History) → m ≡ after ++ before → AllByRecursion (λ x. is_shutting x
       ≡ true) after
       → HoldsFront w base held before → OutFailed w base held m
-  AtLastLine : (how : Served) (reached : Option (List ℕ)) → HoldsReport w base reached m
+  AtLastLine : (how : Served) (reached : Option (List ℕ))
+      → (finish_of m ≡ Some how) ⊎ (is_sink_fault how ≡ true) → HoldsReport w base reached m
       → AppendsFront reached held (last_line how (accepted_count m)) → OutFailed w base held m
 
 -- out holds the report and one last line
@@ -142,12 +149,6 @@ pub record LosesCall (base kept : Option (List ℕ)) (m : History) : Type 0 wher
   pub parts : m ≡ after ++ before
   pub shuts : AllByRecursion (λ x. is_shutting x ≡ true) after
   pub front : KeepsFront base kept (calls before)
-
--- a sink failed
-abbrev pub is_sink_fault : Served → Bool
-is_sink_fault (Fault outside.Out) = true
-is_sink_fault (Fault outside.Capture) = true
-is_sink_fault x = false
 
 abbrev pub IsKept : Served → Option (List ℕ) → Option (List ℕ) → History → Type 0
 IsKept answer base kept m =

@@ -1,6 +1,6 @@
 -- The end of the service: its pairs are told so and shut one after the other, and the last line is told.
 use Rattle.std.proofs.Common.{◌≡◌, ◌≢◌, ◌⊎◌, ℕ, length, ◌≤◌, Bool, true, false, not, ◌||◌, ◌&&◌}
-use Rattle.std.proofs.Common.{if◌then◌else◌, List, [], ◌∷◌, ◌++◌, append-nil, Option, Result, Ok}
+use Rattle.std.proofs.Common.{if◌then◌else◌, List, [], ◌∷◌, ◌++◌, append-nil, Option, Some, Result, Ok}
 use Rattle.std.proofs.Common.{Err, refl, sym, ap, ◌∙◌, subst, inl, inr, arith}
 use Rattle.std.proofs.lemmas.Bool.Decides.{eqb_tells}
 use Rattle.std.specs.List.{AllByRecursion}
@@ -27,7 +27,7 @@ use Rattle.gate_runs.specs.declared.served.Served.TheVariants.{Memory}
 use Rattle.gate_runs.specs.Journal.{journal}
 use Rattle.gate_runs.specs.Marks.{Mark, History, Call, Finish, Extends, calls}
 use Rattle.gate_runs.specs.Next.{AskShut, Do, Point, Ended, point, after_shut, ahead, closing}
-use Rattle.gate_runs.specs.Next.{live_pairs, unless_gone}
+use Rattle.gate_runs.specs.Next.{finish_of, live_pairs, unless_gone}
 use Rattle.gate_runs.specs.Report.{closed_lines, last_line, report, shut_lines}
 use Rattle.gate_runs.specs.Serving.{AtLastLine, AtLines, HoldsReport, IsKept, IsServed, IsTold}
 use Rattle.gate_runs.specs.Serving.{LosesCall, is_shutting, is_sink_fault}
@@ -379,6 +379,11 @@ pub data LastLine (answer : Served) (accepted : ℕ) (held held' : Option (List 
   Cut : is_told answer ≡ true → AppendsFront held held' (last_line answer accepted) → LastLine answer accepted held held' (Fault outside.Out)
   Mute : is_told answer ≡ false → held' ≡ held → LastLine answer accepted held held' answer
 
+says_end : (answer why : Served) (n : History) → finish_of n ≡ Some why → (answer ≡ why) ⊎ (is_sink_fault answer ≡ true)
+    → (finish_of n ≡ Some answer) ⊎ (is_sink_fault answer ≡ true)
+says_end answer why n ended (inl e) = inl (ended ∙ ap (λ (x : Served). Some x) (sym e))
+says_end answer why n ended (inr e) = inr e
+
 last_told : {A : Type 0} (w : RelayWords) (r : A → List Entry → Type 0) (x : ClosingContext) (answer result : Served) (held held' kept : Option (List ℕ)) (n : History)
     → (answer ≡ x.why) ⊎ (is_sink_fault answer ≡ true) → LastLine answer x.accepted held held' result → IsClosing w r x (closing_state [] answer held kept) n
     → IsServed w x.limits result x.count x.held held' x.kept kept n
@@ -387,7 +392,7 @@ last_told {A} w r x answer result held held' kept n answers (Whole told line) i 
     (inl (record { reached = held; lines = subst (λ (t : Bool). HoldsWhile t w x.held held n) told i.told; last = rw i.accepts line })) i
 last_told {A} w r x answer result held held' kept n answers (Cut told line) i =
     concluded w r x answer (Fault outside.Out) held held' kept n (λ e. refl) (inr refl)
-    (inr (refl, AtLastLine answer held (subst (λ (t : Bool). HoldsWhile t w x.held held n) told i.told) (rw i.accepts line))) i
+    (inr (refl, AtLastLine answer held (says_end answer x.why n i.finish answers) (subst (λ (t : Bool). HoldsWhile t w x.held held n) told i.told) (rw i.accepts line))) i
 last_told {A} w r x answer result held held' kept n answers (Mute mute same) i =
     let lost : LosesLines w x.held held n = subst (λ (t : Bool). HoldsWhile t w x.held held n) mute i.told in
     concluded w r x answer answer held held' kept n (λ e. e) answers
