@@ -14,7 +14,6 @@ use Rattle.performatives_10.specs.declared.performative.Flow.{Flow}
 use Rattle.performatives_10.specs.declared.performative.Perf.{Perf}
 use Rattle.performatives_10.specs.declared.performative.Perf.TheVariants as perf
 use Rattle.performatives_10.specs.declared.performative.Transfer.{Transfer}
-use Rattle.session_path.specs.Links.{named}
 use Rattle.performatives_10.specs.declared.condition.Condition.{Condition}
 use Rattle.session_path.specs.Path.{PathState, closes_at as closes_channel, failed, transfer_came, transfer_fault}
 use Rattle.consume_path.specs.declared.delivery.Content.{Content}
@@ -30,13 +29,13 @@ use Rattle.performatives_10.specs.Fields.{maybe}
 use Rattle.performatives_10.specs.View.{error_tree}
 use Rattle.gate_model.specs.Paths.{arrived_at, content_of, is_again}
 use Rattle.gate_model.specs.Paths.{closed_path, or_no_path, part_in, path_at}
-use Rattle.gate_model.specs.Paths.{received_at, slot_at, transfer_error, transferred}
+use Rattle.gate_model.specs.Paths.{is_attached, received_at, slot_at, transfer_error, transferred}
 use Rattle.gate_model.specs.Paths.{transferred_by, with_path}
 use Rattle.gate_model.specs.State.{State, carried, closing_code, fail, fail_life, link_scope}
 use Rattle.gate_model.specs.State.{met_session, or_unattached, path_heard, scoped, session_lost, transfer_scope}
 use Rattle.gate_model.specs.State.{unattached, windowed, with_session}
 use Rattle.gate_model.specs.declared.life.SessionState.{SessionState}
-use Rattle.bridge_core.specs.LinkFaults.{ended_by, fault_in, link_fault, takes_memory_of, unnamed}
+use Rattle.bridge_core.specs.LinkFaults.{ended_by, ended_unless, fault_in, link_fault, takes_memory_of}
 use Rattle.bridge_core.specs.PathChanges.{partial_in, path_changed}
 use Rattle.bridge_core.specs.declared.path_changes.LinkFault.{LinkFault}
 use Rattle.bridge_core.specs.declared.path_changes.LinkFault.TheVariants.{Closes, Ends}
@@ -233,29 +232,29 @@ pub attach_link : (p : Perf) (a : Attach) (payload : List ℕ) (x : SessionState
     → link_fault (parts_of (perf.Attach a)) payload x s ≡ link_fault (parts_of p) payload x s
 attach_link p a payload x s e = sym (ap (λ (q : Perf). link_fault (parts_of q) payload x s) e)
 
-flow_by : (f : Flow) (h : ℕ) (payload : List ℕ) (x : SessionState) (s : PathState) (b : Bool) → is_some (named h s.links) ≡ b
-    → link_fault (parts_of (perf.Flow (record f { handle = Some h }))) payload x s ≡ unnamed b
+flow_by : (f : Flow) (h : ℕ) (payload : List ℕ) (x : SessionState) (s : PathState) (b : Bool) → is_attached h s ≡ b
+    → link_fault (parts_of (perf.Flow (record f { handle = Some h }))) payload x s ≡ ended_unless b
 unfolding parts_of
 flow_by f h payload x s true e = ap (λ (b : Bool). fault_in (unattached b) (parts_of (perf.Flow (record f { handle = Some h }))) payload x s) e
 flow_by f h payload x s false e = ap (λ (b : Bool). fault_in (unattached b) (parts_of (perf.Flow (record f { handle = Some h }))) payload x s) e
 
 pub flow_link : (p : Perf) (f : Flow) (h : ℕ) (payload : List ℕ) (x : SessionState) (s : PathState) → p ≡ perf.Flow f → f.handle ≡ Some h
-    → unnamed (is_some (named h s.links)) ≡ link_fault (parts_of p) payload x s
+    → ended_unless (is_attached h s) ≡ link_fault (parts_of p) payload x s
 flow_link p f h payload x s e g =
     sym (ap (λ (q : Perf). link_fault (parts_of q) payload x s) e
     ∙ ap (λ (o : Option ℕ). link_fault (parts_of (perf.Flow (record f { handle = o }))) payload x s) g
-    ∙ flow_by f h payload x s (is_some (named h s.links)) refl)
+    ∙ flow_by f h payload x s (is_attached h s) refl)
 
-detach_by : (d : Detach) (payload : List ℕ) (x : SessionState) (s : PathState) (b : Bool) → is_some (named d.handle s.links) ≡ b
-    → link_fault (parts_of (perf.Detach d)) payload x s ≡ unnamed b
+detach_by : (d : Detach) (payload : List ℕ) (x : SessionState) (s : PathState) (b : Bool) → is_attached d.handle s ≡ b
+    → link_fault (parts_of (perf.Detach d)) payload x s ≡ ended_unless b
 unfolding parts_of
 detach_by d payload x s true e = ap (λ (b : Bool). fault_in (unattached b) (parts_of (perf.Detach d)) payload x s) e
 detach_by d payload x s false e = ap (λ (b : Bool). fault_in (unattached b) (parts_of (perf.Detach d)) payload x s) e
 
 pub detach_link : (p : Perf) (d : Detach) (payload : List ℕ) (x : SessionState) (s : PathState) → p ≡ perf.Detach d
-    → unnamed (is_some (named d.handle s.links)) ≡ link_fault (parts_of p) payload x s
+    → ended_unless (is_attached d.handle s) ≡ link_fault (parts_of p) payload x s
 detach_link p d payload x s e =
-    sym (ap (λ (q : Perf). link_fault (parts_of q) payload x s) e ∙ detach_by d payload x s (is_some (named d.handle s.links)) refl)
+    sym (ap (λ (q : Perf). link_fault (parts_of q) payload x s) e ∙ detach_by d payload x s (is_attached d.handle s) refl)
 
 transfer_by : (t : Transfer) (payload : List ℕ) (x : SessionState) (s : PathState) (o : Option Condition)
     → transfer_error (parts_of (perf.Transfer t)).1 payload x s ≡ o → link_fault (parts_of (perf.Transfer t)) payload x s ≡ ended_by o

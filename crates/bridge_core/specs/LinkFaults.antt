@@ -26,10 +26,10 @@ abbrev pub ended_by : Option Condition → Option LinkFault
 ended_by None = None
 ended_by (Some c) = Some (Ends c)
 
--- a handle that names no link
-abbrev pub unnamed : Bool → Option LinkFault
-unnamed true = None
-unnamed false = Some (Ends UnattachedHandle)
+-- one whose handle isn't attached
+abbrev pub ended_unless : Bool → Option LinkFault
+ended_unless true = None
+ended_unless false = Some (Ends UnattachedHandle)
 
 -- ---- which may run out of memory: attaches, flows, transfers and dispositions
 

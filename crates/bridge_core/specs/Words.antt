@@ -13,7 +13,7 @@ pub use Rattle.bridge_core.specs.ChannelRows.{is_left_on, is_waiting_on}
 pub use Rattle.bridge_core.specs.Flows.{HasRoom, FlowsFit}
 pub use Rattle.bridge_core.specs.Going.{KeepsGoing}
 pub use Rattle.bridge_core.specs.Held.{AreHeld}
-pub use Rattle.bridge_core.specs.LinkFaults.{fault_in, link_fault, ended_by, unnamed}
+pub use Rattle.bridge_core.specs.LinkFaults.{fault_in, link_fault, ended_by, ended_unless}
 pub use Rattle.bridge_core.specs.LinkFaults.{takes_memory_of, takes_memory_by}
 pub use Rattle.bridge_core.specs.Logins.{IsLoginOf, IsLoginWant}
 pub use Rattle.bridge_core.specs.Met.{back_if, told_of_publish, IsPublish, is_publish, IsOf}

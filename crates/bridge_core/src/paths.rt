@@ -16,7 +16,8 @@ ghost use Rattle.consume_path.specs.Links.{is_tag_used};
 ghost use Rattle.methods_091.specs.Writing.{CanPut};
 ghost use Rattle.consume_path.specs.declared.delivery.Content.{Content};
 ghost use Rattle.gate_model.specs.Due.{deliver_as, deliver_method, detach_out, or_no_bytes};
-ghost use Rattle.gate_model.specs.Paths.{closed_path, closed_paths, error_for, is_receiver};
+ghost use Rattle.gate_model.specs.Paths.{closed_path, closed_paths, error_for, has_left};
+ghost use Rattle.gate_model.specs.Paths.{is_attached, is_receiver};
 ghost use Rattle.gate_model.specs.Requests.{answer_fault, cancel_fault, consume_fault};
 ghost use Rattle.gate_model.specs.Requests.{declare_fault};
 ghost use Rattle.gate_model.specs.Requests.{get_fault, is_queue_name};
@@ -1103,8 +1104,25 @@ impl Paths {
         }
     }
 
+    /// Whether this handle of the container is attached: not both detaches went.
+    pub fn is_attached(&self, channel: u16, peer: u32) -> bool
+        ensures { result ≡ is_attached peer (path_at self.now channel) }
+    {
+        match self.fault_unasked(channel, peer) {
+            AttachFault::HandleInUse => true,
+            AttachFault::NotAsked => false,
+        }
+    }
+
+    /// Whether it is, and names no link any more, since the container detached that.
+    pub fn has_left(&self, channel: u16, peer: u32) -> bool
+        ensures { result ≡ has_left peer (path_at self.now channel) }
+    {
+        self.is_attached(channel, peer) && !self.is_named(channel, peer)
+    }
+
     /// Whether this handle of the container names a link.
-    pub fn is_named(&self, channel: u16, peer: u32) -> bool
+    fn is_named(&self, channel: u16, peer: u32) -> bool
         ensures { result ≡ is_some (named peer (path_at self.now channel).links) }
     {
         match self.at(channel) {

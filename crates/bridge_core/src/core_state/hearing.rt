@@ -1,7 +1,7 @@
 //! The units of the container.
 
 ghost use Rattle.std.specs.Prelude.{◌≡◌, ◌<◌, ◌||◌, true, false, OnOk, OnErr};
-ghost use Rattle.std.specs.Prelude.{Some, None, is_some};
+ghost use Rattle.std.specs.Prelude.{Some, None};
 ghost use Rattle.gate_model.specs.State.{Heard};
 ghost use Rattle.gate_model.specs.State.{step};
 ghost use Rattle.gate_model.specs.State.{fail, fail_life, met, session_lost};
@@ -17,15 +17,13 @@ ghost use Rattle.performatives_10.specs.Fields.{maybe};
 ghost use Rattle.performatives_10.specs.View.{error_tree};
 ghost use Rattle.bridge_core.specs.Flows.{FlowsFit};
 ghost use Rattle.bridge_core.specs.Going.{KeepsGoing};
-ghost use Rattle.std.specs.Prelude.{is_some};
-ghost use Rattle.session_path.specs.Links.{named};
 ghost use Rattle.std.specs.Prelude.{ℕ, List, length, if◌then◌else◌};
-ghost use Rattle.gate_model.specs.Paths.{attach_fault_by, closed_path, path_at};
+ghost use Rattle.gate_model.specs.Paths.{attach_fault_by, closed_path, is_attached, path_at};
 ghost use Rattle.gate_model.specs.Paths.{transfer_error, transferred, with_path};
 ghost use Rattle.gate_model.specs.State.{closing_code, path_heard, windowed};
 ghost use Rattle.performatives_10.specs.declared.performative.Perf.TheVariants as perf;
 ghost use Rattle.bridge_core.specs.LinkFaults.{link_fault, takes_memory_by, takes_memory_of};
-ghost use Rattle.bridge_core.specs.LinkFaults.{ended_by, unnamed};
+ghost use Rattle.bridge_core.specs.LinkFaults.{ended_by, ended_unless};
 
 use super::Core;
 use crate::contents::image_of;
@@ -168,7 +166,7 @@ impl Core {
             return Some(LinkFault::Ends(Condition::WindowViolation));
         }
         let handle = transfer.handle;
-        if !self.paths.is_receiver(channel, handle) {
+        if !self.paths.is_receiver(channel, handle) && !self.paths.has_left(channel, handle) {
             return Some(LinkFault::Ends(Condition::UnattachedHandle));
         }
         match self
@@ -180,11 +178,11 @@ impl Core {
         }
     }
 
-    /// A handle of the container that names no link.
+    /// A handle of the container that isn't attached.
     fn unattached(&self, channel: u16, handle: u32) -> Option<LinkFault>
-        ensures { result ≡ unnamed (is_some (named handle (path_at self.now.paths channel).links)) }
+        ensures { result ≡ ended_unless (is_attached handle (path_at self.now.paths channel)) }
     {
-        if self.paths.is_named(channel, handle) {
+        if self.paths.is_attached(channel, handle) {
             None
         } else {
             Some(LinkFault::Ends(Condition::UnattachedHandle))
