@@ -1,5 +1,6 @@
 pub mod FaultLaws
 pub mod MessageLaws
+pub mod Parts
 pub mod Places
 pub mod ReadingLaws
 pub mod Runs

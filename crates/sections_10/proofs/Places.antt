@@ -1,12 +1,9 @@
 -- What stands at a place of a list of values, or of pairs.
 use Rattle.std.proofs.Common.{◌≡◌, ◌+◌, ◌<◌, ◌≤◌, ℕ, zero, suc, true, false, if◌then◌else◌, List}
-use Rattle.std.proofs.Common.{[], ◌∷◌, ◌++◌, length, drop, Option, Some, None, option_map, Result}
-use Rattle.std.proofs.Common.{Ok, Err, slice_get, refl, sym, ap, ◌∙◌, arith}
-use Rattle.wire_base.specs.Reading.{◌>>=◌, Stops}
-use Rattle.wire_base.specs.declared.stop.Stop.{Stop}
-use Rattle.wire_base.specs.declared.stop.Stop.TheVariants as stop
-use Rattle.types_10.specs.Tree.{Tree, Trees, trees_of, pairs_of}
-use Rattle.sections_10.specs.Fields.{Row, maybe, tree_at, fields_in, field_at}
+use Rattle.std.proofs.Common.{[], ◌∷◌, length, drop, Option, Some, None, option_map, slice_get}
+use Rattle.std.proofs.Common.{refl, sym, ap, ◌∙◌, arith}
+use Rattle.types_10.specs.Tree.{Tree, trees_of, pairs_of}
+use Rattle.sections_10.specs.Fields.{maybe, tree_at}
 use Rattle.sections_10.specs.Reading.{is_key_of, key_found, key_at, keys_are}
 use Rattle.sections_10.specs.declared.sections.Keys.{Keys}
 
@@ -66,26 +63,3 @@ pub keys_end : (ks : Keys) (ps : List (Tree × Tree)) (k : ℕ) → k < length p
 keys_end ks ps k h is so_far =
     let next : keys_are (is_key_of ks) (pairs_of (drop k ps)) ≡ false = keys_next ks ps k h ∙ rw is refl in
     sym next ∙ so_far
-
--- ---- fields one after another
-
-abbrev both : Result Tree (Unit {0}) → Result (List Tree) (Unit {0}) → Result (List Tree) (Unit {0})
-both first others = first >>= λ x. others >>= λ xs. Ok (x ∷ xs)
-
--- the fields of these rows are read
-abbrev pub AreRead : List Row → ℕ → Trees → Type 0
-AreRead [] k ts = Unit {0}
-AreRead (r ∷ rs) k ts = ((x : Tree) × (field_at r k ts ≡ Ok x)) × AreRead rs (k + 1) ts
-
--- the first field that isn't read stops all
-pub stops_in : (front : List Row) (r : Row) (rs : List Row) (k : ℕ) (ts : Trees) (e : Stop (Unit {0})) → AreRead front k ts → Stops e (field_at r (k + length front) ts) → Stops e (fields_in (front ++ r ∷ rs) k ts)
-stops_in front r rs k ts stop.Memory read h = tt
-stops_in [] r rs k ts (stop.Fault f) read h =
-    let here : k + 0 ≡ k = omega arith in
-    let failed : field_at r k ts ≡ Err f = ap (λ (i : ℕ). field_at r i ts) (sym here) ∙ h in
-    ap (λ (y : Result Tree (Unit {0})). both y (fields_in rs (k + 1) ts)) failed
-stops_in (q ∷ front) r rs k ts (stop.Fault f) ((x, one), read) h =
-    let place : (k + 1) + length front ≡ k + length (q ∷ front) = omega arith in
-    let failed : field_at r ((k + 1) + length front) ts ≡ Err f = ap (λ (i : ℕ). field_at r i ts) place ∙ h in
-    let more : fields_in (front ++ r ∷ rs) (k + 1) ts ≡ Err f = stops_in front r rs (k + 1) ts (stop.Fault f) read failed in
-    ap (λ (y : Result Tree (Unit {0})). both y (fields_in (front ++ r ∷ rs) (k + 1) ts)) one ∙ ap (both (Ok x)) more

@@ -1,6 +1,7 @@
 pub mod Faults
 pub mod Fields
 pub mod Grammar
+pub mod Parts
 pub mod Reading
 pub mod Rows
 pub mod View

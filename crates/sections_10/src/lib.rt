@@ -6,6 +6,7 @@ mod collecting;
 mod fields;
 mod laws;
 mod message;
+mod properties;
 mod reading;
 mod sections;
 mod writing;

@@ -1,12 +1,17 @@
 //! Reading messages.
 
-ghost use Rattle.std.specs.Prelude.{◌≡◌, IfOk, IfErr, IsOkAnd};
+ghost use Rattle.std.specs.Prelude.{◌≡◌, ◌<◌, ◌≤◌, length, Some, None, option_map};
+ghost use Rattle.std.specs.Prelude.{IfOk, IfErr, IsOkAnd};
 ghost use Rattle.wire_base.specs.Reading.{Gives};
-ghost use Rattle.sections_10.specs.View.{Kept, kept_of};
+ghost use Rattle.types_10.specs.View.{value_tree};
+ghost use Rattle.sections_10.specs.Rows.{properties_section};
+ghost use Rattle.sections_10.specs.View.{Kept, kept_of, props_tree};
 ghost use Rattle.sections_10.specs.Faults.{IsFault};
 ghost use Rattle.sections_10.specs.Grammar.{IsMessage};
-ghost use Rattle.sections_10.specs.Reading.{found_sections, sections_in, rank, last_rank, fault_of};
+ghost use Rattle.sections_10.specs.Reading.{code_at, section_in, kind_of, body_in, sections_in};
+ghost use Rattle.sections_10.specs.Reading.{found_sections, rank, last_rank, fault_of, kept_in};
 ghost use Rattle.sections_10.specs.Reading.{whole_of, message_in, seen};
+ghost use Rattle.sections_10.specs.declared.reading.SectionFault.TheVariants.{NoBody};
 
 use crate::bodies::next_body;
 use crate::message::{Body10, Message10, MsgHeader, MsgProps};
@@ -44,18 +49,80 @@ struct Found {
     after: usize,
 }
 
+// ---- one section more
+//
+// What was found before a section goes through these functions as one value, so that it is dropped
+// as a whole where the section can't be read.
+
+/// What was found, and a map that may be there.
+fn and_map<T: Drop>(
+    found: T,
+    alloc: Global,
+    keys: Keys,
+    code: u8,
+    bytes: &[u8],
+    at: usize,
+) -> Result<((T, Option<Value10>), usize), Stop<usize>>
+    ensures read { Gives (λ x. (option_map value_tree x.0.1, x.1)) result (section_in
+        (code, kind_of keys) bytes.now at) }
+    ensures kept { IfOk result (λ x. x.0.0 ≡ found) }
+{
+    let (map, after) = map_in(alloc, keys, code, bytes, at)?;
+    Ok(((found, map), after))
+}
+
+/// What was found, and properties that may be there.
+fn and_properties<T: Drop>(
+    found: T,
+    alloc: Global,
+    bytes: &[u8],
+    at: usize,
+) -> Result<((T, Option<MsgProps>), usize), Stop<usize>>
+    ensures read { Gives (λ x. (option_map props_tree x.0.1, x.1)) result
+        (section_in properties_section bytes.now at) }
+    ensures kept { IfOk result (λ x. x.0.0 ≡ found) }
+{
+    let (properties, after) = properties_in(alloc, bytes, at)?;
+    Ok(((found, properties), after))
+}
+
+/// What was found, and a body that may be there.
+fn and_body<T: Drop>(
+    found: T,
+    alloc: Global,
+    bytes: &[u8],
+    at: usize,
+) -> Result<((T, Option<Body10>), usize), Stop<usize>>
+    ensures read { Gives (λ x. (x.0.1, x.1)) result (body_in bytes.now at) }
+    ensures kept { IfOk result (λ x. x.0.0 ≡ found) }
+{
+    let (body, after) = next_body(alloc, bytes, at)?;
+    Ok(((found, body), after))
+}
+
+// ---- all sections
+
 /// The sections that stand in order from the front on.
 #[tactic(auto, unfolding(crate::specs::Reading::sections_in))]
 fn found_in(alloc: Global, bytes: &[u8]) -> Result<Found, Stop<usize>>
     ensures { Gives found_sections result (sections_in bytes.now) }
 {
     let (header, at) = header_in(alloc, bytes, 0)?;
-    let (delivery, at) = map_in(alloc, Keys::Annotations, DELIVERY_ANNOTATIONS, bytes, at)?;
-    let (annotations, at) = map_in(alloc, Keys::Annotations, MESSAGE_ANNOTATIONS, bytes, at)?;
-    let (properties, at) = properties_in(alloc, bytes, at)?;
-    let (application, at) = map_in(alloc, Keys::Strings, APPLICATION_PROPERTIES, bytes, at)?;
-    let (body, at) = next_body(alloc, bytes, at)?;
-    let (footer, after) = map_in(alloc, Keys::Any, FOOTER, bytes, at)?;
+    let keys = Keys::Annotations;
+    let (found, at) = and_map(header, alloc, keys, DELIVERY_ANNOTATIONS, bytes, at)?;
+    let (found, at) = and_map(found, alloc, keys, MESSAGE_ANNOTATIONS, bytes, at)?;
+    let (found, at) = and_properties(found, alloc, bytes, at)?;
+    let (found, at) = and_map(
+        found,
+        alloc,
+        Keys::Strings,
+        APPLICATION_PROPERTIES,
+        bytes,
+        at,
+    )?;
+    let (found, at) = and_body(found, alloc, bytes, at)?;
+    let (found, after) = and_map(found, alloc, Keys::Any, FOOTER, bytes, at)?;
+    let ((((((header, delivery), annotations), properties), application), body), footer) = found;
     Ok(Found {
         header,
         delivery,
@@ -117,6 +184,68 @@ fn fault_behind(last: u64, code: Option<(u64, usize)>) -> SectionFault
     }
 }
 
+/// What was found, where nothing is left behind it; else the fault.
+fn at_end<T: Drop>(
+    found: T,
+    alloc: Global,
+    bytes: &[u8],
+    last: u64,
+    at: usize,
+) -> Result<Result<T, At<SectionFault>>, Memory>
+    ensures end { IfOk result (λ x. IfOk x (λ y. (y ≡ found) × (length bytes.now ≤ at))) }
+    ensures more { IfOk result (λ x. IfErr x (λ e. (at < length bytes.now)
+        × (e.fault ≡ fault_of last (code_at bytes.now at)) × (e.at ≡ at))) }
+{
+    if at >= bytes.len() {
+        return Ok(Ok(found));
+    }
+    let fault = fault_behind(last, code_of(alloc, bytes, at)?);
+    Ok(Err(At { fault, at }))
+}
+
+/// What was found, and its body; where there is none, the fault.
+fn with_body<T: Drop>(
+    found: T,
+    body: Option<Body10>,
+    at: usize,
+) -> Result<(T, Body10), At<SectionFault>>
+    ensures body { IfOk result (λ x. (x.0 ≡ found) × (body ≡ Some x.1)) }
+    ensures none { IfErr result (λ e. (body ≡ None) × (e.fault ≡ NoBody) × (e.at ≡ at)) }
+{
+    match body {
+        Some(body) => Ok((found, body)),
+        None => Err(At {
+            fault: SectionFault::NoBody,
+            at,
+        }),
+    }
+}
+
+/// The message of these sections, where there is a body.
+fn message_from(found: Found) -> Result<Message10, At<SectionFault>>
+    ensures { seen result ≡ kept_in (found_sections found) found.body }
+{
+    let Found {
+        header,
+        annotations,
+        properties,
+        application,
+        body,
+        after,
+        ..
+    } = found;
+    let kept = (header, annotations, properties, application);
+    let (kept, body) = with_body(kept, body, after)?;
+    let (header, annotations, properties, application) = kept;
+    Ok(Message10 {
+        header,
+        annotations,
+        properties,
+        application,
+        body,
+    })
+}
+
 /// The message of these sections: nothing is left behind them, and there is a body.
 fn message_of(
     alloc: Global,
@@ -125,31 +254,11 @@ fn message_of(
 ) -> Result<Result<Message10, At<SectionFault>>, Memory>
     ensures { IfOk result (λ read. seen read ≡ whole_of bytes.now (found_sections found)) }
 {
-    let at = found.after;
-    if at < bytes.len() {
-        let last = last_of(&found);
-        let fault = fault_behind(last, code_of(alloc, bytes, at)?);
-        return Ok(Err(At { fault, at }));
+    let (last, at) = (last_of(&found), found.after);
+    match at_end(found, alloc, bytes, last, at)? {
+        Ok(found) => Ok(message_from(found)),
+        Err(fault) => Ok(Err(fault)),
     }
-    let Found {
-        header,
-        annotations,
-        properties,
-        application,
-        body,
-        ..
-    } = found;
-    let Some(body) = body else {
-        let fault = SectionFault::NoBody;
-        return Ok(Err(At { fault, at }));
-    };
-    Ok(Ok(Message10 {
-        header,
-        annotations,
-        properties,
-        application,
-        body,
-    }))
 }
 
 /// The message that fills these bytes, or the first fault.

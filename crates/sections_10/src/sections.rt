@@ -5,24 +5,22 @@
 
 ghost use Rattle.std.specs.Prelude.{◌≡◌, IfOk, option_map};
 ghost use Rattle.wire_base.specs.Reading.{Gives};
-ghost use Rattle.types_10.specs.Tree.{trees_of, pairs_of};
+ghost use Rattle.types_10.specs.Tree.{pairs_of};
 ghost use Rattle.types_10.specs.View.{value_tree};
 ghost use Rattle.types_10.specs.Reading.{value_at};
-ghost use Rattle.sections_10.specs.Fields.{a_binary, fields_in};
-ghost use Rattle.sections_10.specs.Rows.{properties_rows, header_section, properties_section};
+ghost use Rattle.sections_10.specs.Fields.{a_binary};
+ghost use Rattle.sections_10.specs.Rows.{header_section, properties_section};
 ghost use Rattle.sections_10.specs.Rows.{data_section, sequence_section, value_section};
-ghost use Rattle.sections_10.specs.View.{header_tree, props_fields, props_tree};
+ghost use Rattle.sections_10.specs.View.{header_tree, props_tree};
 ghost use Rattle.sections_10.specs.Reading.{is_key_of, key_at, keys_are, kind_of, meaning_in};
 ghost use Rattle.sections_10.specs.Reading.{value_in, without_fault, code_at, if_code, located_at};
 ghost use Rattle.sections_10.specs.Reading.{section_in, stands_in};
 
-use crate::fields::{
-    address_at, binary_at, boolean_at, boolean_or, id_at, string_at, symbol_at, timestamp_at,
-    ubyte_at, uint_at, uint_or,
-};
+use crate::fields::{boolean_at, boolean_or, ubyte_at, uint_at, uint_or};
 use crate::message::{MsgHeader, MsgProps};
+use crate::properties::fields_from;
 use std::alloc::Global;
-use types_10::{PairList, Value10, ValueList, read_value};
+use types_10::{PairList, Value10, read_value};
 use wire_base::{ByteText, Memory, Stop};
 
 /// The codes of sections.
@@ -102,28 +100,6 @@ fn header_from(value: &Value10) -> Result<MsgHeader, Stop<()>>
         first_acquirer: boolean_or(fields, 3, false)?,
         delivery_count: uint_or(fields, 4, 0)?,
     })
-}
-
-/// The fields of properties, in their order.
-fn fields_from(alloc: Global, fields: &ValueList) -> Result<MsgProps, Stop<()>>
-    ensures { Gives props_fields result (fields_in properties_rows 0 (trees_of fields.now)) }
-{
-    let props = MsgProps {
-        message_id: id_at(alloc, fields, 0)?,
-        user_id: binary_at(alloc, fields, 1)?,
-        to: address_at(alloc, fields, 2)?,
-        subject: string_at(alloc, fields, 3)?,
-        reply_to: address_at(alloc, fields, 4)?,
-        correlation_id: id_at(alloc, fields, 5)?,
-        content_type: symbol_at(alloc, fields, 6)?,
-        content_encoding: symbol_at(alloc, fields, 7)?,
-        absolute_expiry_time: timestamp_at(fields, 8)?,
-        creation_time: timestamp_at(fields, 9)?,
-        group_id: string_at(alloc, fields, 10)?,
-        group_sequence: uint_at(fields, 11)?,
-        reply_to_group_id: string_at(alloc, fields, 12)?,
-    };
-    Ok(props)
 }
 
 /// The fields of properties.
