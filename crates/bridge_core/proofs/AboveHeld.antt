@@ -1,24 +1,49 @@
 -- Whether the units of channels above those of a client can't be taken up, with one unit more or less.
 use Rattle.std.proofs.Common.{◌≡◌, ◌∙◌, ℕ, zero, suc, ◌+◌, ◌<◌, ◌⊎◌, inl, inr, Bool, true, false, List, [], ◌∷◌, ◌++◌, Some}
-use Rattle.std.proofs.Common.{refl, sym, ap, subst, arith, length, nat_lt, take, ◌&&◌}
-use Rattle.std.proofs.lemmas.Bool.{ltb-true}
-use Rattle.std.specs.Prelude.{slice_get}
+use Rattle.std.proofs.Common.{refl, sym, ap, arith, length, take}
+use Rattle.std.proofs.lemmas.Bool.{eqb-true}
+use Rattle.std.specs.List.{list_any}
+use Rattle.std.specs.Prelude.{◌||◌, slice_get}
 use Rattle.machine_091.specs.declared.unit.Unit91.{Unit91}
 use Rattle.gate_model.specs.Queue.{Waits, can_take, channel_of, removed, waits_for_all}
-use Rattle.bridge_core.specs.Held.{AreAboveHeld, FrontWaits, HasOn, IsBehindOwn, NoneOn, place_of}
+use Rattle.bridge_core.specs.Held.{AreAboveHeld, FrontWaits, IsBehindOwn, NoneOn, is_on, place_of}
 use Rattle.bridge_core.proofs.Least.{inside}
 use Rattle.bridge_core.proofs.Search.{all_behind, held_behind}
 
 -- ---- none of them can be taken up behind the front
 
-pub none_on_above : (q : Waits) (us : List Unit91) (m : ℕ) → FrontWaits q us → AreAboveHeld us → NoneOn q us 256 m
-none_on_above q us m front held j u e lt at = by (held j u e at)
+pub in_front : (us : List Unit91) (m j : ℕ) (u : Unit91) → slice_get us j ≡ Some u → j < m → slice_get (take m us) j ≡ Some u
+in_front [] m j u e lt = absurd cc
+in_front (v ∷ us) zero j u e lt = absurd (omega (arith, lt))
+in_front (v ∷ us) (suc m) zero u e lt = e
+in_front (v ∷ us) (suc m) (suc j) u e lt = in_front us m j u e (omega (arith, lt))
+
+of_front : (us : List Unit91) (m j : ℕ) (u : Unit91) → slice_get (take m us) j ≡ Some u → slice_get us j ≡ Some u
+of_front us zero j u e = absurd cc
+of_front [] (suc m) j u e = absurd cc
+of_front (v ∷ us) (suc m) zero u e = e
+of_front (v ∷ us) (suc m) (suc j) u e = of_front us m j u e
+
+pub none_on_above : (q : Waits) (us : List Unit91) (m : ℕ) → FrontWaits q us → AreAboveHeld (take m us) → NoneOn q us 256 m
+none_on_above q us m front held j u e lt at = by (held j u (in_front us m j u e lt) at)
   where
-    by : (waits_for_all u ≡ true) ⊎ IsBehindOwn us j u → can_take q (take j us) u ≡ false
+    by : (waits_for_all u ≡ true) ⊎ IsBehindOwn (take m us) j u → can_take q (take j us) u ≡ false
     by (inl all) = all_behind q us j u e front all
-    by (inr own) = held_behind q us own.0 j own.1 u own.3 e own.4 own.2
+    by (inr own) = held_behind q us own.0 j own.1 u (of_front us m own.0 own.1 own.3) e own.4 own.2
 
 -- ---- one more
+
+-- a unit of a channel
+abbrev HasOn : List Unit91 → ℕ → Type 0
+HasOn us n = (i : ℕ) × (v : Unit91) × (slice_get us i ≡ Some v) × (channel_of v ≡ n)
+
+any_on : (us : List Unit91) (n : ℕ) → list_any (is_on n) us ≡ true → HasOn us n
+any_on [] n e = absurd cc
+any_on (v ∷ us) n e = by (is_on n v) refl e (any_on us n)
+  where
+    by : (b : Bool) → is_on n v ≡ b → (b || list_any (is_on n) us) ≡ true → (list_any (is_on n) us ≡ true → HasOn us n) → HasOn (v ∷ us) n
+    by true here e more = (zero, v, refl, eqb-true (channel_of v) n here)
+    by false other e more = let has = more e in (suc has.0, has.1, has.2, has.3)
 
 more_stands : (us : List Unit91) (u v : Unit91) (i : ℕ) → slice_get us i ≡ Some v → slice_get (us ++ u ∷ []) i ≡ Some v
 more_stands [] u v i e = absurd cc
@@ -36,7 +61,7 @@ pushed_at (w ∷ us) u v (suc j) e = by (pushed_at us u v j e)
     by (inl there) = inl there
     by (inr last) = inr (last.0, omega (arith, last.1))
 
-pub above_pushed : (us : List Unit91) (u : Unit91) → AreAboveHeld us → (place_of u ≡ 256 → (waits_for_all u ≡ true) ⊎ HasOn us (channel_of u))
+pub above_pushed : (us : List Unit91) (u : Unit91) → AreAboveHeld us → (place_of u ≡ 256 → (waits_for_all u ≡ true) ⊎ (list_any (is_on (channel_of u)) us ≡ true))
     → AreAboveHeld (us ++ u ∷ [])
 above_pushed us u held last j v e at = by (pushed_at us u v j e)
   where
@@ -47,9 +72,10 @@ above_pushed us u held last j v e at = by (pushed_at us u v j e)
     old (inl all) = inl all
     old (inr own) = inr (behind own)
 
-    new : v ≡ u → j ≡ length us → (waits_for_all u ≡ true) ⊎ HasOn us (channel_of u) → (waits_for_all v ≡ true) ⊎ IsBehindOwn (us ++ u ∷ []) j v
+    new : v ≡ u → j ≡ length us → (waits_for_all u ≡ true) ⊎ (list_any (is_on (channel_of u)) us ≡ true) → (waits_for_all v ≡ true) ⊎ IsBehindOwn (us ++ u ∷ []) j v
     new is here (inl all) = inl (ap waits_for_all is ∙ all)
-    new is here (inr has) =
+    new is here (inr own) =
+        let has : HasOn us (channel_of u) = any_on us (channel_of u) own in
         inr (has.0, has.1, omega (arith, here, inside has.0 us has.1 has.2), more_stands us u has.1 has.0 has.2, has.3 ∙ ap channel_of (sym is))
 
     by : (slice_get us j ≡ Some v) ⊎ ((v ≡ u) × (j ≡ length us)) → (waits_for_all v ≡ true) ⊎ IsBehindOwn (us ++ u ∷ []) j v
@@ -121,13 +147,3 @@ above_removed us u r there low held l v e at = by (stood r us l v e)
 pub none_above_held : (us : List Unit91) → us ≡ [] → AreAboveHeld us
 none_above_held [] is j u e at = absurd cc
 none_above_held (v ∷ us) is j u e at = absurd cc
-
--- whichever went
-pub above_after : (us vs : List Unit91) (u : Unit91) (r : ℕ) (held : Bool) (k : ℕ) → slice_get us r ≡ Some u → k ≡ place_of u → vs ≡ removed r us
-    → (held ≡ true → AreAboveHeld us) → (held && nat_lt k 256) ≡ true → AreAboveHeld vs
-above_after us vs u r held k there at units known is = by held (nat_lt k 256) refl is known
-  where
-    by : (h low : Bool) → nat_lt k 256 ≡ low → (h && low) ≡ true → (h ≡ true → AreAboveHeld us) → AreAboveHeld vs
-    by true true e i kept = subst AreAboveHeld (sym units) (above_removed us u r there (omega (arith, at, ltb-true k 256 e)) (kept refl))
-    by true false e i kept = absurd cc
-    by false low e i kept = absurd cc

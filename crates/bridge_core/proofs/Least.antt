@@ -8,10 +8,10 @@ use Rattle.std.specs.List.{position_or_len}
 use Rattle.machine_091.specs.declared.unit.Unit91.{Unit91}
 use Rattle.machine_091.specs.declared.unit.Unit91.TheVariants as unit
 use Rattle.gate_model.specs.Queue.{Waits, can_take, channel_of, place_in, waits_for_all}
-use Rattle.bridge_core.specs.Held.{FrontWaits, IsFree, NoneBefore, NoneOn, is_counted_at, place_of}
+use Rattle.bridge_core.specs.Held.{FrontWaits, IsFree, IsFreeAbove, NoneBefore, NoneOn, is_counted_at, place_of}
 use Rattle.bridge_core.proofs.Payloads.{stands_at}
 use Rattle.bridge_core.proofs.FirstPlaces.{apart}
-use Rattle.bridge_core.proofs.Search.{found, free_there, none_found, none_on_first, one_further}
+use Rattle.bridge_core.proofs.Search.{found, free_above, free_there, none_found, none_on_first, one_further}
 
 abbrev pos : ℕ → List Unit91 → ℕ
 pos n us = position_or_len (is_counted_at n) us
@@ -104,6 +104,9 @@ none_on_none q us n i is e = none_on_first q us n (length us) (omega (arith, pas
 pub none_of_all : (q : Waits) (us : List Unit91) (i m k : ℕ) → 256 ≤ i → k ≤ m → NoneBefore q us i m → NoneOn q us 256 k → NoneBefore q us 257 k
 none_of_all q us i m k le within none above = one_further q us 256 m k within (λ j u e before below. none j u e before (omega (arith, below, le))) above
 
+pub none_fewer : (q : Waits) (us : List Unit91) (n m k : ℕ) → m ≤ k → NoneOn q us n k → NoneOn q us n m
+none_fewer q us n m k le none j u e lt at = none j u e (omega (arith, lt, le)) at
+
 -- it is the first of a channel, and none of channel 0 stands before
 pub least_found : (q : Waits) (us : List Unit91) (i m : ℕ) → 256 ≤ i → IsLeast q us i m → NoneOn q us 256 m
     → m < position_or_len (is_counted_at 0) us → place_in q us ≡ Some m
@@ -116,10 +119,9 @@ least_none q us i m le least above ge front =
     none_found q us m front (omega (arith, ge, least.0)) (omega (arith, least.0, prefix_len-le-length (λ x. not (is_counted_at 0 x)) us))
     (none_of_all q us i m m le (omega arith) least.1 above)
 
--- a channel above those of a client has it
-pub above_found : (q : Waits) (us : List Unit91) (i : ℕ) (u : Unit91) → q.opening ≡ false → i ≡ position_or_len (is_counted_at 256) us → i ≤ position_or_len (is_counted_at 0) us
-    → NoneBefore q us 257 i → slice_get us i ≡ Some u → waits_for_all u ≡ false → q.channel (channel_of u) ≡ false → place_in q us ≡ Some i
-above_found q us i u opening is all none here waits channel =
+-- one of a channel above those of a client
+pub above_found : (q : Waits) (us : List Unit91) (i : ℕ) (u : Unit91) → q.opening ≡ false → i ≤ position_or_len (is_counted_at 0) us
+    → NoneBefore q us 257 i → slice_get us i ≡ Some u → IsFreeAbove us i u → q.channel (channel_of u) ≡ false → place_in q us ≡ Some i
+above_found q us i u opening all none here free channel =
     found q us i (inside i us u here) none
-    (subst (λ (o : Option Unit91). IfSome o (λ v. can_take q (take i us) v ≡ true)) (sym here)
-    (free_there q us i u opening channel waits all (omega (arith, is, ap (λ (n : ℕ). pos n us) (of_own us 256 i u is here)))))
+    (subst (λ (o : Option Unit91). IfSome o (λ v. can_take q (take i us) v ≡ true)) (sym here) (free_above q us i u opening channel free all))

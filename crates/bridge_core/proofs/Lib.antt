@@ -22,6 +22,7 @@ pub mod Logins
 pub mod Meets
 pub mod NextOwing
 pub mod OwedLines
+pub mod Passed
 pub mod PathChanges
 pub mod PathSlots
 pub mod Payloads

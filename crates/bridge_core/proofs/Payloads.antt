@@ -24,12 +24,12 @@ bad_more us u = list_any-append is_bad_unit us (u ∷ []) ∙ ap (λ b. list_any
     alone true = refl
     alone false = refl
 
-bad_stays : (i : ℕ) (us : List Unit91) (u : Unit91) → slice_get us i ≡ Some u → is_bad_unit u ≡ false
-    → list_any is_bad_unit (removed i us) ≡ list_any is_bad_unit us
-bad_stays i [] u e good = absurd cc
-bad_stays zero (v ∷ us) u e good =
-    let here : v ≡ u = cc in ap (λ b. b || list_any is_bad_unit us) (sym (ap is_bad_unit here ∙ good))
-bad_stays (suc i) (v ∷ us) u e good = ap (λ b. is_bad_unit v || b) (bad_stays i us u e good)
+pub any_stays : (p : Unit91 → Bool) (i : ℕ) (us : List Unit91) (u : Unit91) → slice_get us i ≡ Some u → p u ≡ false
+    → list_any p (removed i us) ≡ list_any p us
+any_stays p i [] u e fails = absurd cc
+any_stays p zero (v ∷ us) u e fails =
+    let here : v ≡ u = cc in ap (λ b. b || list_any p us) (sym (ap p here ∙ fails))
+any_stays p (suc i) (v ∷ us) u e fails = ap (λ b. p v || b) (any_stays p i us u e fails)
 
 pub bad_less : (i : ℕ) (us : List Unit91) (u : Unit91) (bad : Bool) → slice_get us i ≡ Some u → bad ≡ list_any is_bad_unit us
     → (if is_bad_unit u then list_any is_bad_unit (removed i us) else bad) ≡ list_any is_bad_unit (removed i us)
@@ -37,7 +37,7 @@ bad_less i us u bad here e = by (is_bad_unit u) refl
   where
     by : (b : Bool) → is_bad_unit u ≡ b → (if b then list_any is_bad_unit (removed i us) else bad) ≡ list_any is_bad_unit (removed i us)
     by true is = refl
-    by false is = e ∙ sym (bad_stays i us u here is)
+    by false is = e ∙ sym (any_stays is_bad_unit i us u here is)
 
 -- the unit at a place, and the others
 pub taken_out : (i : ℕ) (us : List Unit91) → removed i us ≡ remove us i

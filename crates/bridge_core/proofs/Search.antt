@@ -8,7 +8,7 @@ use Rattle.std.specs.List.{list_any, position_or_len}
 use Rattle.machine_091.specs.declared.unit.Unit91.{Unit91}
 use Rattle.machine_091.specs.declared.unit.Unit91.TheVariants as unit
 use Rattle.gate_model.specs.Queue.{Waits, can_take, channel_of, holds, is_beat, is_empty, place_from, place_in, waits_for_all}
-use Rattle.bridge_core.specs.Held.{FrontWaits, NoneBefore, NoneOn, is_counted_at, place_of}
+use Rattle.bridge_core.specs.Held.{FrontWaits, IsFreeAbove, NoneBefore, NoneOn, is_counted_at, is_on, place_of}
 use Rattle.bridge_core.proofs.Payloads.{stands_at}
 use Rattle.bridge_core.proofs.Places.{none_behind, place_here}
 use Rattle.bridge_core.proofs.FirstPlaces.{apart, no_later}
@@ -124,11 +124,28 @@ not_held c n (suc m) (v ∷ us) at all own = by (place_of v == 0) (place_of v ==
         ∙ ap (λ (b : Bool). b || list_any (holds c) (take m us)) not_own
         ∙ more (omega (arith, all)) (omega (arith, own))
 
-pub free_there : (q : Waits) (us : List Unit91) (m : ℕ) (u : Unit91) → q.opening ≡ false → q.channel (channel_of u) ≡ false → waits_for_all u ≡ false
-    → m ≤ position_or_len (is_counted_at 0) us → m ≤ position_or_len (is_counted_at (place_of u)) us → can_take q (take m us) u ≡ true
-free_there q us m u opening channel all first own =
-    by (waits_for_all u) (is_empty (take m us)) q.some q.opening (q.channel (channel_of u)) (list_any (holds (channel_of u)) (take m us)) all opening channel
-    (not_held (channel_of u) (place_of u) m us refl first own)
+-- nor by one of its own channel
+not_on : (c m : ℕ) (us : List Unit91) → m ≤ position_or_len (is_counted_at 0) us → list_any (is_on c) (take m us) ≡ false → list_any (holds c) (take m us) ≡ false
+not_on c zero us all own = refl
+not_on c (suc m) [] all own = refl
+not_on c (suc m) (v ∷ us) all own = by (place_of v == 0) (is_on c v) refl refl (not_on c m us) all own
+  where
+    by : (a b : Bool) → (place_of v == 0) ≡ a → is_on c v ≡ b
+        → (m ≤ position_or_len (is_counted_at 0) us → list_any (is_on c) (take m us) ≡ false → list_any (holds c) (take m us) ≡ false)
+        → suc m ≤ cond (not a) (1 + position_or_len (is_counted_at 0) us) 0 → (b || list_any (is_on c) (take m us)) ≡ false
+        → list_any (holds c) (take (suc m) (v ∷ us)) ≡ false
+    by true b e f more all own = absurd (omega (arith, all))
+    by false true e f more all own = absurd cc
+    by false false e f more all own =
+        let not_all : (channel_of v == 0) ≡ false = ne_eqb (channel_of v) 0 (λ same. eqb-false (place_of v) 0 e (omega (arith, same))) in
+        ap (λ (b : Bool). (b || channel_of v == c) || list_any (holds c) (take m us)) not_all
+        ∙ ap (λ (b : Bool). b || list_any (holds c) (take m us)) f
+        ∙ more (omega (arith, all)) own
+
+can_there : (q : Waits) (us : List Unit91) (m : ℕ) (u : Unit91) → q.opening ≡ false → q.channel (channel_of u) ≡ false → waits_for_all u ≡ false
+    → list_any (holds (channel_of u)) (take m us) ≡ false → can_take q (take m us) u ≡ true
+can_there q us m u opening channel all free =
+    by (waits_for_all u) (is_empty (take m us)) q.some q.opening (q.channel (channel_of u)) (list_any (holds (channel_of u)) (take m us)) all opening channel free
   where
     by : (all empty some opening waits held : Bool) → all ≡ false → opening ≡ false → waits ≡ false → held ≡ false
         → (if all then empty && not some else not opening && not waits && not held) ≡ true
@@ -137,6 +154,14 @@ free_there q us m u opening channel all first own =
     by false empty some false true held a o w h = absurd cc
     by false empty some false false true a o w h = absurd cc
     by false empty some false false false a o w h = refl
+
+pub free_there : (q : Waits) (us : List Unit91) (m : ℕ) (u : Unit91) → q.opening ≡ false → q.channel (channel_of u) ≡ false → waits_for_all u ≡ false
+    → m ≤ position_or_len (is_counted_at 0) us → m ≤ position_or_len (is_counted_at (place_of u)) us → can_take q (take m us) u ≡ true
+free_there q us m u opening channel all first own = can_there q us m u opening channel all (not_held (channel_of u) (place_of u) m us refl first own)
+
+pub free_above : (q : Waits) (us : List Unit91) (m : ℕ) (u : Unit91) → q.opening ≡ false → q.channel (channel_of u) ≡ false → IsFreeAbove us m u
+    → m ≤ position_or_len (is_counted_at 0) us → can_take q (take m us) u ≡ true
+free_above q us m u opening channel free first = can_there q us m u opening channel free.0 (not_on (channel_of u) m us first free.1)
 
 -- ---- the place
 

@@ -1,9 +1,11 @@
 -- Which channels are held by units that wait: a unit of a channel waits for those before it of that
 -- channel and of channel 0.
-use Rattle.std.specs.Prelude.{◌≡◌, ◌==◌, ℕ, ◌+◌, ◌-◌, ◌^◌, ◌<◌, Bool, count_by, false, length}
+use Rattle.std.specs.Prelude.{◌≡◌, ◌==◌, ℕ, ◌+◌, ◌-◌, ◌^◌, ◌<◌, ◌≤◌, Bool, count_by, false, length}
 use Rattle.std.specs.Prelude.{[], List, min, nat_lt, if◌then◌else◌, map, slice_get, slice_index_or, Some}
 use Rattle.std.specs.Prelude.{take, true, ◌⊎◌}
+use Rattle.std.specs.BTreeSet.{BTreeSet, contains}
 use Rattle.std.specs.List.{list_any, position_or_len}
+use Rattle.std.specs.Ordering.{nat_cmp}
 use Rattle.machine_091.specs.declared.unit.Unit91.{Unit91}
 use Rattle.gate_model.specs.Queue.{Waits, can_take, channel_of, holds, waits_for_all}
 
@@ -42,10 +44,6 @@ gone_after at gone = if at == 0 then gone + 1 else gone
 abbrev pub firsts_after : ℕ → ℕ → List ℕ → List ℕ
 firsts_after at gone firsts = if at == 0 then firsts else map (moved_up (gone + at)) firsts
 
--- a unit of a channel
-abbrev pub HasOn : List Unit91 → ℕ → Type 0
-HasOn us n = (i : ℕ) × (v : Unit91) × (slice_get us i ≡ Some v) × (channel_of v ≡ n)
-
 -- a unit stands behind another of its channel
 abbrev pub IsBehindOwn : List Unit91 → ℕ → Unit91 → Type 0
 IsBehindOwn us j u =
@@ -57,6 +55,21 @@ abbrev pub AreAboveHeld : List Unit91 → Type 0
 AreAboveHeld us =
     (j : ℕ) (u : Unit91) → slice_get us j ≡ Some u → place_of u ≡ 256
     → (waits_for_all u ≡ true) ⊎ IsBehindOwn us j u
+
+-- it is of a channel
+abbrev pub is_on : ℕ → Unit91 → Bool
+is_on n u = channel_of u == n
+
+-- so many units at the front were passed: on channels above those of a client each of these waits as
+-- above, and these are such channels that they are of
+abbrev pub ArePassed : List Unit91 → ℕ → BTreeSet ℕ → Type 0
+ArePassed us passed channels =
+    (passed ≤ length us) × AreAboveHeld (take passed us)
+    × ((n : ℕ) → 256 ≤ n → contains nat_cmp channels n ≡ list_any (is_on n) (take passed us))
+
+-- a unit waits neither for all before it nor for another of its channel
+abbrev pub IsFreeAbove : List Unit91 → ℕ → Unit91 → Type 0
+IsFreeAbove us i u = (waits_for_all u ≡ false) × (list_any (is_on (channel_of u)) (take i us) ≡ false)
 
 -- ---- which can be taken up
 

@@ -323,8 +323,9 @@ impl Core {
                 first = first.min(place);
             }
         }
-        if let Some(place) = self.above_before(first) {
-            self.first_above(place)
+        let passed = self.passed();
+        if passed < first {
+            self.first_above(passed)
         } else if first < end {
             Some(first)
         } else {
@@ -332,34 +333,28 @@ impl Core {
         }
     }
 
-    /// The place of the first unit of a channel above those of a client, where it stands before
-    /// this place, and one of these can be taken up.
-    fn above_before(&self, place: usize) -> Option<usize>
-        ensures none { FrontWaits (waits self.now) self.now.queue → result ≡ None
-            → NoneOn (waits self.now) self.now.queue CHANNELS place }
-        ensures above { IfSome result
-            (λ i. i ≡ position_or_len (is_counted_at CHANNELS) self.now.queue) }
-        ensures before { IfSome result (λ i. i < place) }
+    /// How many units at the front were passed: where the first of all can't be taken up, none of
+    /// these on a channel above those of a client can be.
+    fn passed(&self) -> usize
+        ensures { FrontWaits (waits self.now) self.now.queue
+            → NoneOn (waits self.now) self.now.queue CHANNELS result }
     {
-        if self.queue.is_above_held() {
-            return None;
-        }
-        let above = self.queue.first(CHANNELS as u16);
-        if above < place { Some(above) } else { None }
+        self.queue.passed()
     }
 
-    /// The same, where the first unit of a channel above those of a client comes before these. It
-    /// waits for no request, so it can be taken up, but for a heartbeat.
+    /// The same, where none before this place can be, and none of channel 0 stands there. If one of
+    /// a channel above those of a client is there, it can be taken up.
     fn first_above(&self, place: usize) -> Option<usize>
         requires running { is_opening self.now.conn ≡ false }
-        requires above { place ≡ position_or_len (is_counted_at CHANNELS) self.now.queue }
         requires all { place ≤ position_or_len (is_counted_at 0) self.now.queue }
         requires none { NoneBefore (waits self.now) self.now.queue 257 place }
         ensures place { result ≡ place_in (waits self.now) self.now.queue }
         ensures within { IfSome result (λ i. i < length self.now.queue) }
     {
         match self.queue.get(place) {
-            Some(unit) if !waits_for_all(unit) && !self.waits_on(channel_of(unit)) => Some(place),
+            Some(unit) if self.queue.is_free_above(place) && !self.waits_on(channel_of(unit)) => {
+                Some(place)
+            }
             _ => self.look_through(),
         }
     }
@@ -383,8 +378,8 @@ impl Core {
         None
     }
 
-    /// The same, with a look at the first unit before, and in a long queue at the channels' first
-    /// ones instead of all units.
+    /// The same, with a look at the first unit before, and in a long queue, or where units of
+    /// channels above those of a client wait, at the channels' first ones instead of all units.
     fn first_to_take(&self) -> Option<usize>
         requires { is_opening self.now.conn ≡ false }
         ensures place { result ≡ place_in (waits self.now) self.now.queue }
@@ -394,10 +389,23 @@ impl Core {
             None
         } else if self.can_take_first() {
             Some(0)
-        } else if CHANNELS < self.queue.len() {
+        } else if CHANNELS < self.queue.len() || self.queue.has(CHANNELS as u16) {
             self.first_of_channels()
         } else {
             self.look_through()
+        }
+    }
+
+    /// Units are passed, where none was and the first of all can't be taken up.
+    fn look_on(&mut self)
+        ensures { self.new ≡ self.old }
+    {
+        if self.queue.passed() == 0
+            && !self.queue.is_empty()
+            && !self.conn.is_opening()
+            && !self.can_take_first()
+        {
+            self.queue.pass();
         }
     }
 

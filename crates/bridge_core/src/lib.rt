@@ -2,6 +2,7 @@
 //! state, and which offers exactly what that state says goes next.
 #![tactic(auto)]
 
+mod above;
 mod bridge;
 mod channel_rows;
 mod contents;

@@ -8,11 +8,12 @@ ghost use Rattle.std.specs.Bool.{OnFalse, OnTrue};
 ghost use Rattle.std.specs.List.{list_any, position_or_len};
 ghost use Rattle.gate_model.specs.Queue.{holds, is_bad_unit, is_empty, is_full, payload_of};
 ghost use Rattle.gate_model.specs.Queue.{removed, waits_for_all, channel_of};
-ghost use Rattle.bridge_core.specs.Held.{AreAboveHeld, HasOn};
-ghost use Rattle.bridge_core.specs.Held.{AreHeld, firsts_after, gone_after, is_counted_at, moved_up};
+ghost use Rattle.bridge_core.specs.Held.{AreAboveHeld, AreHeld, IsFreeAbove, firsts_after};
+ghost use Rattle.bridge_core.specs.Held.{gone_after, is_counted_at, moved_up};
 ghost use Rattle.bridge_core.specs.Held.{place_of};
 ghost use Rattle.bridge_core.specs.declared.queue.TheConstants.{COUNTS};
 
+use crate::above::Above;
 use crate::lives::CHANNELS;
 use frames_091::Kind91;
 use gate_model::{QUEUE_BYTES, QUEUE_UNITS};
@@ -34,8 +35,8 @@ pub struct Queue {
     firsts: [usize; COUNTS],
     /// How many went from the front.
     gone: usize,
-    /// None on a channel above those of a client can be taken up behind the front.
-    above_held: bool,
+    /// Those on channels above those of a client.
+    above: Above,
     units: VecDeque<Unit91>,
     bytes: usize,
     /// Bytes with which no unit begins are among them.
@@ -47,8 +48,7 @@ impl Model for Queue {
     ghost use Rattle.std.specs.List.{list_any};
     ghost use Rattle.machine_091.specs.declared.unit.Unit91.{Unit91};
     ghost use Rattle.gate_model.specs.Queue.{is_bad_unit, payloads};
-    ghost use Rattle.std.specs.Prelude.{true};
-    ghost use Rattle.bridge_core.specs.Held.{AreAboveHeld, AreCounted, AreFirst};
+    ghost use Rattle.bridge_core.specs.Held.{AreCounted, AreFirst, ArePassed};
 
     ghost Value = { List Unit91 };
 
@@ -57,7 +57,7 @@ impl Model for Queue {
     ghost invariant = { λ a. (a.bytes ≡ payloads a.units.items)
         × (a.bad ≡ list_any is_bad_unit a.units.items) × AreCounted a.units.items a.counts
         × AreFirst a.units.items a.gone a.firsts
-        × (a.above_held ≡ true → AreAboveHeld a.units.items) };
+        × ArePassed a.units.items a.above.passed a.above.channels };
 }
 
 /// The channel that a unit is of: of the connection is what isn't a frame.
@@ -199,7 +199,7 @@ impl Queue {
             counts: [0; COUNTS],
             firsts: [0; COUNTS],
             gone: 0,
-            above_held: true,
+            above: Above::new(alloc),
         }
     }
 
@@ -220,13 +220,12 @@ impl Queue {
             return Err(Memory);
         };
         let bad = is_bad_unit(&unit);
-        let above_held = self.stays_held(&unit);
         match self.units.push_back(unit) {
             Ok(()) => {
                 self.bytes = bytes;
                 self.bad |= bad;
                 self.counts[place] = count;
-                self.above_held = above_held;
+                self.above.pass_all(&self.units);
                 if count == 1 {
                     self.firsts[place] = end - 1;
                 }
@@ -245,7 +244,7 @@ impl Queue {
         self.bad = false;
         self.counts = [0; COUNTS];
         self.gone = 0;
-        self.above_held = true;
+        self.above.clear();
     }
 
     /// How many units wait.
@@ -304,11 +303,27 @@ impl Queue {
         }
     }
 
-    /// None on a channel above those of a client can be taken up behind the front.
-    pub fn is_above_held(&self) -> bool
-        ensures { result ≡ true → AreAboveHeld self.now }
+    /// How many units at the front were passed: of these none on a channel above those of a client
+    /// can be taken up behind the front.
+    pub fn passed(&self) -> usize
+        ensures { AreAboveHeld (take result self.now) }
     {
-        self.above_held
+        self.above.passed
+    }
+
+    /// Units are passed up to the first such that can be taken up behind the front.
+    pub fn pass(&mut self)
+        ensures { self.new ≡ self.old }
+    {
+        self.above.pass_all(&self.units);
+    }
+
+    /// The unit at this place, which is on such a channel, waits neither for all before it nor for
+    /// another of its channel. Only of the one behind those that were passed this is said.
+    pub fn is_free_above(&self, place: usize) -> bool
+        ensures { OnTrue result (IfSome (slice_get self.now place) (IsFreeAbove self.now place)) }
+    {
+        self.above.is_free(place, &self.units)
     }
 
     /// Whether one of the first units holds those of a channel.
@@ -345,28 +360,6 @@ impl Queue {
         }
     }
 
-    /// A unit of a channel above those of a client waits.
-    fn has_above(&self, channel: u16) -> bool
-        ensures { OnTrue result (HasOn self.now channel) }
-    {
-        for i in self.first(CHANNELS as u16)..self.units.len() {
-            if self.channel_at(i) == channel {
-                return true;
-            }
-        }
-        false
-    }
-
-    /// None on such a channel can be taken up once this unit waits too.
-    fn stays_held(&self, unit: &Unit91) -> bool
-        ensures { result ≡ true → AreAboveHeld (self.now ++ unit.now ∷ []) }
-    {
-        if !self.above_held {
-            return false;
-        }
-        place_of(unit) < CHANNELS || waits_for_all(unit) || self.has_above(channel_of(unit))
-    }
-
     /// The unit at a place holds its channel. `false` is for one of channel 0, which holds all.
     #[tactic(auto, using(crate::proofs::Places::hold_more))]
     pub fn hold(&self, place: usize, held: &mut [bool; CHANNELS]) -> bool
@@ -399,7 +392,7 @@ impl Queue {
         self.bad = bad_without(self.bad, &unit, &self.units);
         let was_first = self.firsts[of] == self.gone + place;
         self.gone = went(&mut self.firsts, self.gone, place);
-        self.above_held &= of < CHANNELS;
+        self.above.went(place, &unit, &self.units);
         if was_first && 0 < self.counts[of] {
             self.firsts[of] = self.gone + next_from(&self.units, place, of);
         }

@@ -520,6 +520,7 @@ impl Core {
         ensures calm { self.new.out_of_memory ≡ false }
         ensures kept { KeepsGoing self.old self.new }
     {
+        self.look_on();
         match self.place() {
             None => Ok(false),
             Some(place) => {

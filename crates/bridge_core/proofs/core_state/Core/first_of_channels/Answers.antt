@@ -4,8 +4,7 @@ use Rattle.std.specs.List.{position_or_len}
 use Rattle.machine_091.specs.declared.unit.Unit91.{Unit91}
 use Rattle.gate_model.specs.State.{State, waits}
 use Rattle.bridge_core.specs.Held.{is_counted_at}
-use Rattle.bridge_core.proofs.Least.{IsLeast, least_found, least_moves, least_none, least_stays, none_of_all}
-use Rattle.bridge_core.proofs.Search.{none_on_first}
+use Rattle.bridge_core.proofs.Least.{IsLeast, least_found, least_moves, least_none, least_stays, none_fewer, none_of_all}
 use Rattle.bridge_core.proofs.core_state.Core.first_of_channels.Goals as goal
 use Rattle.bridge_core.proofs.core_state.Core.first_of_channels.Goals.{in-Some, in_default}
 
@@ -24,8 +23,8 @@ loop-i-preserved c =
 pub first_above-requires-clause-none : goal.first_above-requires-clause-none
 first_above-requires-clause-none c =
     let w : State = c.args.self.now in
-    none_of_all (waits w) w.queue c.loop-i.i c.loop-i.first c.in-Some-above_before.place (omega (arith, c.loop-i-test.false)) (omega (arith, c.in-Some-above_before.ensures.before)) c.loop-i.invariant.1
-    (none_on_first (waits w) w.queue 256 c.in-Some-above_before.place (omega (arith, c.in-Some-above_before.ensures.above)))
+    none_of_all (waits w) w.queue c.loop-i.i c.loop-i.first c.passed-passed.result (omega (arith, c.loop-i-test.false)) (omega (arith, c.if-passed-first.true)) c.loop-i.invariant.1
+    (c.passed-passed.ensures c.requires.front)
 
 pub returns-then-first-end-clause-place : goal.returns-then-first-end-clause-place
 returns-then-first-end-clause-place c =
@@ -34,7 +33,7 @@ returns-then-first-end-clause-place c =
     let end : c.first-end.result ≡ position_or_len (is_counted_at 0) w.queue =
     c.first-end.ensures ∙ ap (λ (us : List Unit91). position_or_len (is_counted_at 0) us) same in
     sym (least_found (waits w) w.queue c.loop-i.i c.loop-i.first (omega (arith, c.loop-i-test.false)) c.loop-i.invariant
-    (c.above_before.ensures.none c.requires.front c.in_default-above_before.is) (omega (arith, end)))
+    (none_fewer (waits w) w.queue 256 c.loop-i.first c.passed-passed.result (omega (arith, c.if-passed-first.false)) (c.passed-passed.ensures c.requires.front)) (omega (arith, end)))
 
 pub returns-then-first-end-clause-within : goal.returns-then-first-end-clause-within
 returns-then-first-end-clause-within c =
@@ -51,4 +50,4 @@ returns-else-first-end-clause-place c =
     let end : c.first-end.result ≡ position_or_len (is_counted_at 0) w.queue =
     c.first-end.ensures ∙ ap (λ (us : List Unit91). position_or_len (is_counted_at 0) us) same in
     sym (least_none (waits w) w.queue c.loop-i.i c.loop-i.first (omega (arith, c.loop-i-test.false)) c.loop-i.invariant
-    (c.above_before.ensures.none c.requires.front c.in_default-above_before.is) (omega (arith, end)) c.requires.front)
+    (none_fewer (waits w) w.queue 256 c.loop-i.first c.passed-passed.result (omega (arith, c.if-passed-first.false)) (c.passed-passed.ensures c.requires.front)) (omega (arith, end)) c.requires.front)

@@ -3,9 +3,10 @@ use Rattle.std.specs.List.{list_any}
 use Rattle.std.specs.Prelude.{slice_index_or, slice_set}
 use Rattle.machine_091.specs.declared.unit.Unit91.{Unit91}
 use Rattle.gate_model.specs.Queue.{is_bad_unit, payloads}
-use Rattle.bridge_core.specs.Held.{AreAboveHeld, AreCounted, AreFirst, is_counted_at}
+use Rattle.bridge_core.specs.Held.{AreCounted, AreFirst, ArePassed, is_counted_at}
 use Rattle.bridge_core.proofs.Counts.{counted_more}
 use Rattle.bridge_core.proofs.KeptFirsts.{pushed_behind, pushed_first}
+use Rattle.bridge_core.proofs.Passed.{passed_behind}
 use Rattle.bridge_core.proofs.Payloads.{bad_more, payloads_more}
 use Rattle.bridge_core.proofs.queue.Queue.push.Goals as goal
 
@@ -32,7 +33,8 @@ invariant_of-self c =
       subst (λ (vs : List Unit91). AreFirst vs gone (slice_set firsts k (end - 1))) (sym c.in-Ok.ensures.items)
           (subst (λ (e : ℕ). AreFirst (us ++ u ∷ []) gone (slice_set firsts k e)) (omega (arith, ends))
           (pushed_first us u gone firsts k c.self.told.1 c.place_of-place.ensures.value bound none c.self.invariant.3)),
-      λ held. subst AreAboveHeld (ap (λ (vs : List Unit91). vs ++ u ∷ []) (sym c.self.view_is) ∙ sym c.in-Ok.ensures.items) (c.stays_held-above_held.ensures held),
+      c.pass_all.ensures (subst (λ (vs : List Unit91). ArePassed vs c.self.inside.above.passed c.self.inside.above.channels) (sym c.in-Ok.ensures.items)
+          (passed_behind us u c.self.inside.above.passed c.self.inside.above.channels c.self.invariant.4)),
     )
 
 pub invariant_of-self-else-count-eq1 : goal.invariant_of-self-else-count-eq1
@@ -54,5 +56,6 @@ invariant_of-self-else-count-eq1 c =
           (counted_more us u c.self.inside.counts k count c.self.told.0 c.place_of-place.ensures.value counts c.self.invariant.2),
       subst (λ (vs : List Unit91). AreFirst vs gone c.self.inside.firsts) (sym c.in-Ok.ensures.items)
           (pushed_behind us u gone c.self.inside.firsts k c.place_of-place.ensures.value bound more c.self.invariant.3),
-      λ held. subst AreAboveHeld (ap (λ (vs : List Unit91). vs ++ u ∷ []) (sym c.self.view_is) ∙ sym c.in-Ok.ensures.items) (c.stays_held-above_held.ensures held),
+      c.pass_all.ensures (subst (λ (vs : List Unit91). ArePassed vs c.self.inside.above.passed c.self.inside.above.channels) (sym c.in-Ok.ensures.items)
+          (passed_behind us u c.self.inside.above.passed c.self.inside.above.channels c.self.invariant.4)),
     )

@@ -4,7 +4,6 @@ use Rattle.std.specs.List.{list_any}
 use Rattle.machine_091.specs.declared.unit.Unit91.{Unit91}
 use Rattle.gate_model.specs.Queue.{is_bad_unit, payloads, removed}
 use Rattle.bridge_core.specs.Held.{is_counted_at}
-use Rattle.bridge_core.proofs.AboveHeld.{above_after}
 use Rattle.bridge_core.proofs.Counts.{counted_less, counted_left, some_counted}
 use Rattle.bridge_core.proofs.KeptFirsts.{length_less}
 use Rattle.bridge_core.proofs.Payloads.{bad_less, payloads_less, stands_at, taken_out}
@@ -60,7 +59,7 @@ invariant_of-self c =
           ∙ sym (ap (count_by (is_counted_at n)) rest),
       went_first us c.remove.new.self.items u c.self.inside.gone c.went-self-inside.result i c.self.inside.firsts c.went-self-inside.new.firsts k c.next_from.result there c.place_of-of.ensures.value c.self.told.1
           (omega (arith, c.place_of-of.ensures.within)) rest c.went-self-inside.ensures.gone c.went-self-inside.ensures.firsts c.self.invariant.3 c.if-was_first.true c.next_from.ensures,
-      λ held. above_after us c.remove.new.self.items u i c.self.inside.above_held k there c.place_of-of.ensures.value rest c.self.invariant.4 held,
+      c.went.ensures us there rest c.self.invariant.4,
     )
 
 pub invariant_of-self-else-self-of-gt0 : goal.invariant_of-self-else-self-of-gt0
@@ -82,7 +81,7 @@ invariant_of-self-else-self-of-gt0 c =
       went_other us c.remove.new.self.items u c.self.inside.gone c.went-self-inside.result i c.self.inside.firsts c.went-self-inside.new.firsts k there c.place_of-of.ensures.value c.self.told.1
           (omega (arith, c.place_of-of.ensures.within)) rest c.went-self-inside.ensures.gone c.went-self-inside.ensures.firsts c.self.invariant.3
           (λ was. counted_left us u i c.self.inside.counts k c.remove.new.self.items there c.self.told.0 c.place_of-of.ensures.value c.self.invariant.2 c.if-self-of-gt0.false rest),
-      λ held. above_after us c.remove.new.self.items u i c.self.inside.above_held k there c.place_of-of.ensures.value rest c.self.invariant.4 held,
+      c.went.ensures us there rest c.self.invariant.4,
     )
 
 pub invariant_of-self-else-was_first : goal.invariant_of-self-else-was_first
@@ -104,7 +103,7 @@ invariant_of-self-else-was_first c =
       went_other us c.remove.new.self.items u c.self.inside.gone c.went-self-inside.result i c.self.inside.firsts c.went-self-inside.new.firsts k there c.place_of-of.ensures.value c.self.told.1
           (omega (arith, c.place_of-of.ensures.within)) rest c.went-self-inside.ensures.gone c.went-self-inside.ensures.firsts c.self.invariant.3
           (λ was. absurd (c.if-was_first.false was)),
-      λ held. above_after us c.remove.new.self.items u i c.self.inside.above_held k there c.place_of-of.ensures.value rest c.self.invariant.4 held,
+      c.went.ensures us there rest c.self.invariant.4,
     )
 
 pub returns-then-self-of-gt0-clause-unit : goal.returns-then-self-of-gt0-clause-unit
