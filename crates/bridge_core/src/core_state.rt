@@ -21,7 +21,7 @@ ghost use Rattle.gate_outside.specs.Counts.{Rose};
 ghost use Rattle.gate_outside.specs.Streams.{Appends, AppendsFront};
 ghost use Rattle.gate_relay.specs.Entries.{is_empty};
 ghost use Rattle.gate_model.specs.Due.{is_awaiting, is_busy, is_connect_due};
-ghost use Rattle.gate_model.specs.Due.{is_shut_due, is_bad, is_unheard, is_overdue, can_leave};
+ghost use Rattle.gate_model.specs.Due.{can_leave};
 ghost use Rattle.gate_model.specs.Due.{can_take_up};
 ghost use Rattle.gate_model.specs.Due.{begins};
 ghost use Rattle.gate_model.specs.Due.{is_silent};
@@ -39,11 +39,12 @@ ghost use Rattle.bridge_core.specs.Logins.{IsLoginOf};
 mod due;
 mod going;
 mod hearing;
+mod shutting;
 mod taking;
 
 use crate::channel_rows::{any_waits, is_ended, is_waiting_on};
 use crate::lives::{CHANNELS, Lives, is_clear};
-use crate::moments::{closes_at, fed_by, is_overdue};
+use crate::moments::{closes_at, fed_by};
 use crate::paths::Paths;
 use crate::queue::{Queue, channel_of, waits_for_all};
 use crate::replies::{last_pending, none_pending, refusal_with, with_last};
@@ -168,20 +169,6 @@ fn close_if(conn: &mut Conn91, closes: bool)
     if closes {
         conn.closing(Scope::Connection, 0);
     }
-}
-
-/// Bytes of the client came with which no unit begins.
-fn is_bad(conn: &Conn91) -> bool
-    ensures { result ≡ is_bad conn.now.stream }
-{
-    matches!(conn.stream(), Stream91::Bad)
-}
-
-/// The client's protocol header didn't come.
-fn is_unheard(conn: &Conn91) -> bool
-    ensures { result ≡ is_unheard conn.now.stream }
-{
-    matches!(conn.stream(), Stream91::Header | Stream91::Foreign)
 }
 
 impl Core {
@@ -760,43 +747,6 @@ impl Core {
             && self.queue.is_empty()
             && !self.waits()
             && !self.paths.is_laden()
-    }
-
-    /// The client's end is to be shut.
-    fn is_client_shut_due(&self) -> bool
-        ensures { result ≡ is_shut_due self.now Client }
-    {
-        self.failed
-            || is_overdue(self.closed_at, self.moment)
-            || self.late
-            || self.conn.is_over()
-            || self.sent_last.protocol
-            || self.sent_last.close_ok
-            || (self.sent_last.close && (is_bad(&self.conn) || self.out_of_memory))
-            || (self.out_of_memory && is_unheard(&self.conn))
-    }
-
-    /// The upstream end is to be shut.
-    fn is_up_shut_due(&self) -> bool
-        ensures { result ≡ is_shut_due self.now Up }
-    {
-        let sent = self.up.sent();
-        matches!(self.up.side(), Side::Failed)
-            || matches!(self.up.side(), Side::Ended)
-            || is_overdue(self.closed_at, self.moment)
-            || (sent.whole_close
-                && (self.up.has_closed() || self.up.has_gone_bad() || self.out_of_memory))
-            || (self.conn.is_closing() && !sent.open)
-    }
-
-    /// An end is to be shut.
-    pub fn is_shut_due(&self, end: End) -> bool
-        ensures { result ≡ is_shut_due self.now end }
-    {
-        match end {
-            End::Client => self.is_client_shut_due(),
-            End::Up => self.is_up_shut_due(),
-        }
     }
 
     /// Writes the lines that the report is owed. `false` comes only if the report's count of faults
