@@ -25,7 +25,6 @@ ghost use Rattle.bridge_core.specs.Reports.{IsNextOwing, is_before, owing_on, so
 mod due;
 
 use crate::lives::CHANNELS;
-use close_translate::{NOT_ALLOWED, NOT_FOUND};
 use consume_path::{Content, Part, Settle, TransferFault};
 pub use due::{cancel_fault, declare_fault};
 use gate_model::{ChannelUnit, HELD_BYTES, HELD_PUBLISHES, SessionUnit};
