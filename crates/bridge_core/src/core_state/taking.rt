@@ -1,7 +1,7 @@
 //! The units of the client that are taken up.
 
 ghost use Rattle.std.specs.Prelude.{◌≡◌, ◌<◌, ◌+◌, ◌-◌, ◌^◌, true, false, OnOk, OnErr, IfOk};
-ghost use Rattle.std.specs.Prelude.{None, box_value, is_some};
+ghost use Rattle.std.specs.Prelude.{None, box_value, is_some, Err, IfErr, Ok};
 ghost use Rattle.machine_091.specs.declared.unit.Want91.TheVariants as want;
 ghost use Rattle.session_path.specs.Path as session;
 ghost use Rattle.session_path.specs.Path.{published};
@@ -41,6 +41,18 @@ use wire_base::{ByteText, Memory};
 /// Lets go of a method, once it is met.
 fn release_method(method: Method91) {
     drop(method);
+}
+
+/// A value and what a step gave. Where that failed the value is dropped by one call: dropped in
+/// place, its fields would each be a branch of the caller's proof.
+fn both<A: Drop, B, E>(first: A, second: Result<B, E>) -> Result<(A, B), E>
+    ensures ok { IfOk result (λ x. (x.0 ≡ first) × (second ≡ Ok x.1)) }
+    ensures err { IfErr result (λ e. second ≡ Err e) }
+{
+    match second {
+        Ok(second) => Ok((first, second)),
+        Err(error) => Err(error),
+    }
 }
 
 /// What is due on a channel that its client closes.
@@ -430,7 +442,8 @@ impl Core {
                 Ok(())
             }
             Met::Want(want, told) => {
-                self.meet_path(alloc, &want, spare)?;
+                let met = self.meet_path(alloc, &want, spare);
+                let (want, _) = both(want, met)?;
                 self.meet(alloc, closing, told, want);
                 Ok(())
             }
