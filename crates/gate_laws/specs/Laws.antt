@@ -51,6 +51,7 @@ use Rattle.gate_model.specs.Setup.{IsInForm, SetupText}
 use Rattle.gate_model.specs.Sources.{GetsFromItsQueue}
 use Rattle.gate_model.specs.Starts.{StartsBehind}
 use Rattle.gate_model.specs.State.{owed_lines}
+use Rattle.gate_model.specs.Supplies.{FillsQuotas, LeavesCredit}
 use Rattle.gate_model.specs.Takers.{TakesAsAsked}
 use Rattle.gate_model.specs.Takes.{TakesInTurn}
 use Rattle.gate_model.specs.Waiting.{ChannelsEndWhenSettled, EndsWhenSettled, OpensWhenOpened}
@@ -112,9 +113,11 @@ pub record IsLawfulPair (s : SetupText) (h : List Entry) : Type 0 where
   pub settles : Settles (steps_of s h)
   pub grants : Grants (steps_of s h)
   -- a link for gets has its one credit while its get waits, and a consumer's quota is that of the
-  -- last basic.qos before it, which the credit left and what is in use keep to at all times
+  -- last basic.qos before it, which the credit left and what is in use keep to at all times; that
+  -- credit is what all that went and came on the link leaves of it
   pub credits : StatesCredit (steps_of s h)
   pub quotas : KeepsQuotas (steps_of s h)
+  pub left : LeavesCredit (steps_of s h)
   pub releases : Releases (steps_of s h)
   -- whether a delivery waits for an acknowledgement, and which prefetch limits it, is what the
   -- request of its link said; a consumer has what comes on its link until its cancel
@@ -158,6 +161,7 @@ pub record IsLawfulPair (s : SetupText) (h : List Entry) : Type 0 where
   -- where nothing goes to an end, nothing is owed to it
   pub served : ServesClients (steps_of s h)
   pub supplied : SuppliesContainers (steps_of s h)
+  pub filled : FillsQuotas (steps_of s h)
   pub ended : EndsContainers (steps_of s h)
   -- a client is told of the end of its connection or a channel, and of the begin of both, once the
   -- container is through

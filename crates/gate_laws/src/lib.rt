@@ -46,6 +46,7 @@ ghost use Rattle.gate_model.specs.Setup.{IsInForm, SetupText};
 ghost use Rattle.gate_model.specs.Sources.{GetsFromItsQueue};
 ghost use Rattle.gate_model.specs.Starts.{StartsBehind};
 ghost use Rattle.gate_model.specs.State.{owed_lines};
+ghost use Rattle.gate_model.specs.Supplies.{FillsQuotas, LeavesCredit};
 ghost use Rattle.gate_model.specs.Takers.{TakesAsAsked};
 ghost use Rattle.gate_model.specs.Takes.{TakesInTurn};
 ghost use Rattle.gate_model.specs.Waiting.{ChannelsEndWhenSettled, EndsWhenSettled};
@@ -152,7 +153,11 @@ pub fn requests_hold_what_follows()
 /// return until its channel.close. Where nothing goes to a container before the gateway's close,
 /// each session that is begun has nothing owed: no disposition is due, no link is to be detached,
 /// and while the pair has memory no publish may be transferred, no credit is to be stated, and no
-/// link to be attached. Nor is a begin, a flow of a session, an end or the close.
+/// link to be attached. Nor is a begin, a flow of a session, an end or the close. So while the pair
+/// has memory more than half of the quota of each consumer's live link is used: by what is left of
+/// the credit, and by the deliveries that count. On one whose consumer was cancelled none is left.
+/// Each flow of the container that asks for the state of a receiving link has one behind it, and so
+/// has each basic.get that waits.
 pub fn owed_units_go()
     ensures clients { (s : SetupText) (c : Limits) (m : History) → Follows (pair_words s) c m
         → (p : ℕ) → ServesClients (steps_of s (journal p m)) }
@@ -160,10 +165,13 @@ pub fn owed_units_go()
         → (p : ℕ) → SuppliesContainers (steps_of s (journal p m)) }
     ensures sessions { (s : SetupText) (c : Limits) (m : History) → Follows (pair_words s) c m
         → (p : ℕ) → EndsContainers (steps_of s (journal p m)) }
+    ensures filled { (s : SetupText) (c : Limits) (m : History) → Follows (pair_words s) c m
+        → (p : ℕ) → FillsQuotas (steps_of s (journal p m)) }
 {
     entries_are_lawful();
     gate_model::owed_units_go();
     gate_model::sessions_get_what_is_due();
+    gate_model::links_are_supplied();
 }
 
 /// On each channel no more channel.open-oks went than channel.opens were taken up, and the same of
@@ -287,16 +295,20 @@ pub fn deliveries_are_settled()
 /// where it is for gets, and none but while its get waits; with what is in use within the quota
 /// where it is a consumer's, which its last basic.qos before it says; none where it is a
 /// declaration's. And what is left of a consumer's credit is so within the quota at all times,
-/// while its life goes on.
+/// while its life goes on. What is left is what the container's attach and flows, the gateway's
+/// flows and the deliveries that began leave of it.
 pub fn quotas_are_kept()
     ensures stated { (s : SetupText) (c : Limits) (m : History) → Follows (pair_words s) c m
         → (p : ℕ) → StatesCredit (steps_of s (journal p m)) }
     ensures kept { (s : SetupText) (c : Limits) (m : History) → Follows (pair_words s) c m
         → (p : ℕ) → KeepsQuotas (steps_of s (journal p m)) }
+    ensures left { (s : SetupText) (c : Limits) (m : History) → Follows (pair_words s) c m
+        → (p : ℕ) → LeavesCredit (steps_of s (journal p m)) }
 {
     entries_are_lawful();
     gate_model::credits_are_lawful();
     gate_model::quotas_are_kept();
+    gate_model::links_are_supplied();
 }
 
 /// A link for publishes that the gateway detaches and the container didn't is one on which each

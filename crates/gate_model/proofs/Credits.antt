@@ -21,14 +21,14 @@ use Rattle.session_path.specs.declared.path.FlowDue.{FlowDue}
 use Rattle.session_path.specs.declared.path.PathLink.{PathLink}
 use Rattle.session_path.proofs.Ties.{eq_of, found_number, found_passes}
 use Rattle.gate_model.specs.declared.channel.LinkFlow.{LinkFlow}
-use Rattle.gate_model.specs.Credits.{IsCredit, awaits, in_use, is_consumer, is_granted, is_receiving, kind_in, quota_in}
+use Rattle.gate_model.specs.Credits.{IsCredit, awaits, in_use, is_consumer, is_granted, is_receiving, kind_in, quota_in, quota_of}
 use Rattle.gate_model.proofs.Awaiting.{idle_credit}
 use Rattle.gate_model.proofs.Basics.{and_left, and_right, not_true}
 use Rattle.gate_model.proofs.Calling.{get_calls}
 use Rattle.gate_model.proofs.Credited.{credit_within}
 use Rattle.gate_model.proofs.Granting.{CountsAre, CreditsAre, DeliveriesAre, owes_none}
 use Rattle.gate_model.proofs.Linking.{Source, apart, source}
-use Rattle.gate_model.proofs.Quotas.{ForConsumer, Kept, kept, number_is, quota_of, quota_same}
+use Rattle.gate_model.proofs.Quotas.{ForConsumer, Kept, kept, number_is, quota_same}
 use Rattle.gate_model.proofs.Receivers.{IsUnowed, LinksAre, are_unowed}
 
 -- what consume_path says of the deliveries that are begun
@@ -37,14 +37,14 @@ JoinedAre = (life k : ℕ) (ds : List DeliveryEvent) → AreCalls life ds → If
 
 -- ---- what is in use
 
-used : CountsAre → JoinedAre → (life k : ℕ) (ds : List DeliveryEvent) (l : ReceivingLink) → AreCalls life ds → link_of (deliveries_after life ds).links k ≡ Some l
+pub used : CountsAre → JoinedAre → (life k : ℕ) (ds : List DeliveryEvent) (l : ReceivingLink) → AreCalls life ds → link_of (deliveries_after life ds).links k ≡ Some l
     → l.state.counted ≡ in_use k ds
 used counts joined life k ds l calls e =
     (all_find (IsCounted ds) (is_number k) (deliveries_after life ds).links l (counts life ds) e).0
     ∙ ap (λ (i : ℕ). counted_on i ds + one_if (is_some l.partial)) (number_is (deliveries_after life ds).links k l e)
     ∙ ap (λ (p : Option Partial). counted_on k ds + one_if (is_some p)) (subst (λ (o : Option ReceivingLink). IfSome o (λ m. m.partial ≡ joined_of (pieces_of k ds))) e (joined life k ds calls))
 
-kept_is : (life k : ℕ) (ds : List DeliveryEvent) (l : ReceivingLink) → AreCalls life ds → link_of (deliveries_after life ds).links k ≡ Some l → Kept ds k l
+pub kept_is : (life k : ℕ) (ds : List DeliveryEvent) (l : ReceivingLink) → AreCalls life ds → link_of (deliveries_after life ds).links k ≡ Some l → Kept ds k l
 kept_is life k ds l calls e = subst (λ (o : Option ReceivingLink). IfSome o (Kept ds k)) e (kept life ds calls k)
 
 quota_is : (life k : ℕ) (es : List PathEvent) (l : ReceivingLink) (tag : List ℕ) (no_ack : Bool) → l.kind ≡ Consumer tag no_ack → Kept (deliveries_of life es) k l

@@ -1,6 +1,7 @@
 pub mod Addresses
 pub mod Answering
 pub mod Arrived
+pub mod Asking
 pub mod Attaching
 pub mod Awaiting
 pub mod Backs
@@ -35,6 +36,7 @@ pub mod Ends
 pub mod Errors
 pub mod Fates
 pub mod Faults
+pub mod Filling
 pub mod Firsts
 pub mod Fitting
 pub mod FittingUp

@@ -29,26 +29,10 @@ use Rattle.session_path.specs.Path.{taking, transferred}
 use Rattle.session_path.specs.declared.path.PathLink.{PathLink}
 use Rattle.session_path.specs.declared.path.PathOk.{PathOk}
 use Rattle.session_path.specs.declared.path.PathOk.TheVariants as ok
-use Rattle.gate_model.specs.Credits.{kind_in, quota_by}
-use Rattle.gate_model.specs.Credits.{prefetch_in, quota_in}
+use Rattle.gate_model.specs.Credits.{added_quota, kind_in, prefetch_in, prefetch_of, quota_by, quota_in, quota_of}
 use Rattle.gate_model.proofs.Linking.{counted_anew, link_after, linked, recounts}
 
 -- ---- by the events of the deliveries
-
-abbrev pub prefetch_of : List DeliveryEvent → ℕ
-prefetch_of [] = 0
-prefetch_of (on.PrefetchSet count ∷ ds) = count
-prefetch_of (x ∷ ds) = prefetch_of ds
-
-abbrev pub added_quota : RecvKind → Bool → ℕ → ℕ → ℕ
-added_quota (Consumer tag no_ack) here prefetch old = if here then quota_by no_ack prefetch else old
-added_quota Get here prefetch old = old
-added_quota Probe here prefetch old = old
-
-abbrev pub quota_of : ℕ → List DeliveryEvent → ℕ
-quota_of k [] = 0
-quota_of k (on.LinkAdded link kind ∷ ds) = added_quota kind (link == k) (prefetch_of ds) (quota_of k ds)
-quota_of k (x ∷ ds) = quota_of k ds
 
 pub prefetch_is : (life : ℕ) (ds : List DeliveryEvent) → (on.after_events life ds).prefetch ≡ prefetch_of ds
 prefetch_is life [] = refl

@@ -83,7 +83,7 @@ QueuesAre = (life : ℕ) (es : List PathEvent) → (after_events life es).queue 
 abbrev pub has : ℕ → List Source → Bool
 has k xs = is_some (find (is_source_of k) xs)
 
-found_push : (k : ℕ) (xs : List Source) (y : Source) → find (is_source_of k) (xs ++ y ∷ []) ≡ option_or (find (is_source_of k) xs) (cond (y.link == k) (Some y) None)
+pub found_push : (k : ℕ) (xs : List Source) (y : Source) → find (is_source_of k) (xs ++ y ∷ []) ≡ option_or (find (is_source_of k) xs) (cond (y.link == k) (Some y) None)
 found_push k [] y = refl
 found_push k (x ∷ xs) y = by (x.link == k) (found_push k xs y)
   where
@@ -113,7 +113,7 @@ found_without j k (x ∷ xs) = by (x.link == j) (x.link == k) (k == j) refl refl
 
 pub record Goes (ls : List PathLink) (xs : List Source) (closed : Bool) (wanted : ℕ → List ℕ) : Type 0 where
   pub there : (k : ℕ) → takes k ls ≡ true → has k xs ≡ true
-  known : closed ≡ false → (k : ℕ) → has k xs ≡ true → takes k ls ≡ true
+  pub known : closed ≡ false → (k : ℕ) → has k xs ≡ true → takes k ls ≡ true
   address : (k : ℕ) (x : Source) → find (is_source_of k) xs ≡ Some x → x.address ≡ wanted k
 
 abbrev pub GoesOn : ℕ → PathState → List PathEvent → Type 0

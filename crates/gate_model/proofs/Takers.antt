@@ -28,7 +28,7 @@ use Rattle.session_path.specs.Path.{PathState, arrival_on, flow_in, get_link, is
 use Rattle.session_path.specs.declared.path.PathLink.{PathLink}
 use Rattle.session_path.specs.declared.path.PathOk.{PathOk}
 use Rattle.session_path.specs.declared.path.PathOk.TheVariants as ok
-use Rattle.gate_model.specs.Credits.{is_consumer, kind_in}
+use Rattle.gate_model.specs.Credits.{is_consumer, kind_in, prefetch_of}
 use Rattle.gate_model.specs.Picks.{ArePicks}
 use Rattle.gate_model.specs.Publishing.{path_events}
 use Rattle.gate_model.specs.Sources.{or_new}
@@ -45,7 +45,7 @@ use Rattle.gate_model.proofs.Heard.{ClosedAre, open_heard}
 use Rattle.gate_model.proofs.Images.{all_leave, arriving_link}
 use Rattle.gate_model.proofs.Linking.{apart, counted_anew, link_after, linked, recounts}
 use Rattle.gate_model.proofs.Moves.{arrives}
-use Rattle.gate_model.proofs.Quotas.{AreSimple, Kept, equal, is_simple, kept, number_is, prefetch_is, prefetch_of, prefetch_same, simple_events}
+use Rattle.gate_model.proofs.Quotas.{AreSimple, Kept, equal, is_simple, kept, number_is, prefetch_is, prefetch_same, simple_events}
 use Rattle.gate_model.proofs.Rests.{LivesBelow}
 use Rattle.gate_model.proofs.Settles.{CallsAre}
 use Rattle.gate_model.proofs.Sources.{QueuesAre, adds, gets_kind, kind_back, unadded}

@@ -67,6 +67,24 @@ quota_in life k (event.Consumed queue tag no_ack no_wait ∷ es) =
     else quota_in life k es
 quota_in life k (x ∷ es) = quota_in life k es
 
+-- the same by the events of the deliveries alone
+abbrev pub prefetch_of : List DeliveryEvent → ℕ
+prefetch_of [] = 0
+prefetch_of (on.PrefetchSet count ∷ ds) = count
+prefetch_of (x ∷ ds) = prefetch_of ds
+
+abbrev pub added_quota : RecvKind → Bool → ℕ → ℕ → ℕ
+added_quota (Consumer tag no_ack) here prefetch old =
+    if here then quota_by no_ack prefetch else old
+added_quota Get here prefetch old = old
+added_quota Probe here prefetch old = old
+
+abbrev pub quota_of : ℕ → List DeliveryEvent → ℕ
+quota_of k [] = 0
+quota_of k (on.LinkAdded link kind ∷ ds) =
+    added_quota kind (link == k) (prefetch_of ds) (quota_of k ds)
+quota_of k (x ∷ ds) = quota_of k ds
+
 -- how much of it is in use: on a limited link the deliveries that nothing settles, on another those
 -- that are held; and the one that is begun
 abbrev pub in_use : ℕ → List DeliveryEvent → ℕ

@@ -51,6 +51,7 @@ pub mod Sources
 pub mod Spelling
 pub mod Starts
 pub mod State
+pub mod Supplies
 pub mod Takers
 pub mod Takes
 pub mod Times

@@ -56,6 +56,7 @@ ghost use Rattle.gate_model.specs.Settles.{Grants, Settles};
 ghost use Rattle.gate_model.specs.Sources.{GetsFromItsQueue};
 ghost use Rattle.gate_model.specs.Starts.{StartsBehind};
 ghost use Rattle.gate_model.specs.State.{Step, before, owed_lines};
+ghost use Rattle.gate_model.specs.Supplies.{FillsQuotas, LeavesCredit};
 ghost use Rattle.gate_model.specs.Takers.{TakesAsAsked};
 ghost use Rattle.gate_model.specs.Takes.{TakesInTurn};
 ghost use Rattle.gate_model.specs.Times.{BeatsAtOnce, BeatsWhenDue, LateCloses, ShutsAtOnce};
@@ -378,6 +379,27 @@ pub fn owed_units_go()
     calls_lawfully();
     ids_lawfully();
     settles_lawfully();
+}
+
+/// What is left of a receiving link's credit is what the container's attach and flows, the
+/// gateway's flows and the deliveries that began leave of it. Where nothing goes to the container
+/// before the gateway's close, while the pair has memory, more than half of the quota of each
+/// consumer's live link is used: by what is left of the credit, and by the deliveries that count.
+/// On the link of a consumer that was cancelled no credit is left. Each flow of the container that
+/// asks for the state of a receiving link has one behind it, and so has each basic.get that waits.
+pub fn links_are_supplied()
+    ensures left { (h : List Step) → ArePicks h → LeavesCredit h }
+    ensures filled { (h : List Step) → ArePicks h → FillsQuotas h }
+{
+    connection_laws();
+    links_lawfully();
+    deliveries_lawfully();
+    calls_lawfully();
+    receivers_lawfully();
+    counts_lawfully();
+    numbers_lawfully();
+    names_lawfully();
+    owed_units_go();
 }
 
 /// What was sent to a client, without heartbeats, and what is due to it are the replies to its

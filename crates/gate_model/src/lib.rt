@@ -24,13 +24,14 @@ pub use laws::{
     delivers_are_lawful, delivers_go_behind_answers, detaches_state_faults, ends_linger,
     ends_state_errors, flows_are_answered, frames_fit_clients, frames_fit_containers,
     gets_come_from_their_queues, grants_are_lawful, handles_are_links, idle_links_are_given_up,
-    laden_pairs_wait, lines_are_lawful, lives_close_once, lost_containers_end_publishes,
-    opens_go_behind_begins, outcomes_are_answered, owed_units_go, paths_are_known,
-    payloads_are_whole, publishes_reach_their_address, quotas_are_kept, recovers_release_all,
-    releases_are_lawful, replies_wait, requests_are_answered, requests_hold_what_follows,
-    returns_are_lawful, sessions_end_once, sessions_get_what_is_due, settles_are_lawful,
-    silent_ends_are_given_up, states_are_known, times_are_kept, transfers_are_lawful,
-    units_are_recorded, units_are_short, units_keep_their_order, wishes_are_met,
+    laden_pairs_wait, lines_are_lawful, links_are_supplied, lives_close_once,
+    lost_containers_end_publishes, opens_go_behind_begins, outcomes_are_answered, owed_units_go,
+    paths_are_known, payloads_are_whole, publishes_reach_their_address, quotas_are_kept,
+    recovers_release_all, releases_are_lawful, replies_wait, requests_are_answered,
+    requests_hold_what_follows, returns_are_lawful, sessions_end_once, sessions_get_what_is_due,
+    settles_are_lawful, silent_ends_are_given_up, states_are_known, times_are_kept,
+    transfers_are_lawful, units_are_recorded, units_are_short, units_keep_their_order,
+    wishes_are_met,
 };
 pub use life::{Life, SessionState};
 pub use limits::{HANDLE_MAX, HELD_BYTES, HELD_PUBLISHES, QUEUE_BYTES, QUEUE_UNITS};
