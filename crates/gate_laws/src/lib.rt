@@ -46,7 +46,7 @@ ghost use Rattle.gate_model.specs.Setup.{IsInForm, SetupText};
 ghost use Rattle.gate_model.specs.Sources.{GetsFromItsQueue};
 ghost use Rattle.gate_model.specs.Starts.{StartsBehind};
 ghost use Rattle.gate_model.specs.State.{owed_lines};
-ghost use Rattle.gate_model.specs.Supplies.{FillsQuotas, LeavesCredit};
+ghost use Rattle.gate_model.specs.Supplies.{AttachesLinks, FillsQuotas, LeavesCredit};
 ghost use Rattle.gate_model.specs.Takers.{TakesAsAsked};
 ghost use Rattle.gate_model.specs.Takes.{TakesInTurn};
 ghost use Rattle.gate_model.specs.Waiting.{ChannelsEndWhenSettled, EndsWhenSettled};
@@ -158,6 +158,9 @@ pub fn requests_hold_what_follows()
 /// the credit, and by the deliveries that count. On one whose consumer was cancelled none is left.
 /// Each flow of the container that asks for the state of a receiving link has one behind it, and so
 /// has each basic.get that waits.
+/// And while a handle is left that no link of the life had, each publish of which a frame is to go
+/// has a link to its address that the gateway attached, and so has each basic.consume,
+/// queue.declare and basic.get.
 pub fn owed_units_go()
     ensures clients { (s : SetupText) (c : Limits) (m : History) → Follows (pair_words s) c m
         → (p : ℕ) → ServesClients (steps_of s (journal p m)) }
@@ -167,6 +170,8 @@ pub fn owed_units_go()
         → (p : ℕ) → EndsContainers (steps_of s (journal p m)) }
     ensures filled { (s : SetupText) (c : Limits) (m : History) → Follows (pair_words s) c m
         → (p : ℕ) → FillsQuotas (steps_of s (journal p m)) }
+    ensures attached { (s : SetupText) (c : Limits) (m : History) → Follows (pair_words s) c m
+        → (p : ℕ) → AttachesLinks (steps_of s (journal p m)) }
 {
     entries_are_lawful();
     gate_model::owed_units_go();

@@ -74,7 +74,7 @@ up_held (stage.Failed h fault) e = refl
 up_held g e = absurd cc
 
 -- one that neither is wanted nor goes
-there_held : (g : Stage) → is_stage_wanted g ≡ false → is_stage_given g ≡ false → held_by g ≡ Some (handle_of g)
+pub there_held : (g : Stage) → is_stage_wanted g ≡ false → is_stage_given g ≡ false → held_by g ≡ Some (handle_of g)
 there_held stage.Wanted e i = absurd cc
 there_held (stage.Given h) e i = absurd cc
 there_held (stage.Asked h) e i = refl

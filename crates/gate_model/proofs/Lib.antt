@@ -128,6 +128,7 @@ pub mod Ups
 pub mod Waiters
 pub mod WaitingGets
 pub mod Waits
+pub mod Wanting
 pub mod Walks
 pub mod Wholes
 pub mod Widths

@@ -292,7 +292,7 @@ module _ (n : ℕ) (h : List Step) (life : ℕ) (old : path_life h n ≡ Some li
 -- ---- all steps
 
 module _ (publishes : PublishesAre) (frames : FramesAre) (rests : RestsAre) (tied : LinksAre) (below : LivesBelow) where
-  holds : (n : ℕ) (h : List Step) → ArePicks h → (life : ℕ) → path_life h n ≡ Some life → In n h life
+  pub holds : (n : ℕ) (h : List Step) → ArePicks h → (life : ℕ) → path_life h n ≡ Some life → In n h life
   holds n [] p life l = absurd cc
   holds n (Came u ∷ h) p life l = came_now n h life (holds n h p.1 life) u l
   holds n (Gave (ToClient u) text ∷ h) p life l =

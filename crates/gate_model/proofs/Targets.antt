@@ -24,7 +24,7 @@ use Rattle.session_path.specs.Events as event
 use Rattle.session_path.specs.Events.{PathEvent, after_event, after_events, losses, publish_events, publishes_of}
 use Rattle.session_path.specs.Links.{LinksState, answered, answered_stage, asked_as, asked_by, asked_on, at_handle, attach_fault, attached, attached_as}
 use Rattle.session_path.specs.Links.{detached_on, drained_if, failed_by, failed_on, flowed_on, free_number, given_by, given_on, gone_on, handle_at, handle_in, handle_in_link, handle_of}
-use Rattle.session_path.specs.Links.{has_number, is_asked_as, is_at, is_given, is_left, is_stage_failed, is_stage_left, is_stage_open, is_stage_whole, is_wanted}
+use Rattle.session_path.specs.Links.{has_number, is_asked_as, is_at, is_given, is_left, is_stage_failed, is_stage_left, is_stage_open, is_stage_wanted, is_stage_whole, is_wanted}
 use Rattle.session_path.specs.Links.{is_wanted_receiver, left_by, link_asked, linked_to, link_flowed, named, parted, put, stands, told_by, told_on, told_once, wanted_link, with_link_to}
 use Rattle.session_path.specs.Links.{with_receiver, without_receivers}
 use Rattle.session_path.specs.Path.{IsThere, PathState, flow_of, get_link, is_grant_next, number_of, owes_flow, queue_or, receiver_in, sender_in, source_of, taking}
@@ -70,6 +70,24 @@ At f (Some x) (Some l) = (l.receives ≡ false) × Has f x l.stage
 
 abbrev pub Keeps : Names → LinksState → Type 0
 Keeps f s = (n : ℕ) → At f (link_of s.sending n) (find (has_number n) s.links)
+
+-- one that isn't wanted any more has a handle whose attach named its address
+pub sends_on : (f : Names) (s : LinksState) (n : ℕ) (x : SendingLink) → Keeps f s → link_of s.sending n ≡ Some x
+    → ((l : PathLink) → find (has_number n) s.links ≡ Some l → is_wanted l ≡ false) → (h : ℕ) × (f h ≡ Some x.address)
+sends_on f s n x k e unwanted = by (find (has_number n) s.links) refl (subst (λ (o : Option SendingLink). At f o (find (has_number n) s.links)) e (k n))
+  where
+    at : (l : PathLink) (q : Stage) → l.stage ≡ q → is_wanted l ≡ false → Has f x q → (h : ℕ) × (f h ≡ Some x.address)
+    at l stage.Wanted same i has = let wanted : is_wanted l ≡ true = ap is_stage_wanted same in absurd (no_clash (is_wanted l) wanted i)
+    at l (stage.Asked h) same i has = (h, has)
+    at l (stage.Open h) same i has = (h, has)
+    at l (stage.Refused h) same i has = (h, has)
+    at l (stage.Left h) same i has = absurd has
+    at l (stage.Given h) same i has = absurd has
+    at l (stage.Failed h fault) same i has = absurd has
+
+    by : (p : Option PathLink) → find (has_number n) s.links ≡ p → At f (Some x) p → (h : ℕ) × (f h ≡ Some x.address)
+    by None g a = absurd a
+    by (Some l) g a = at l l.stage refl (unwanted l g) a.1
 
 at_as : (f : Names) (o o' : Option SendingLink) (p p' : Option PathLink) → o' ≡ o → p' ≡ p → At f o p → At f o' p'
 at_as f o o' p p' e g a = subst (λ (x : Option SendingLink). At f x p') (sym e) (subst (λ (x : Option PathLink). At f o x) (sym g) a)

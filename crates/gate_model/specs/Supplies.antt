@@ -1,7 +1,8 @@
 -- What is owed to a container on a link: told by folds over the events of the life in progress,
 -- which know no state. Where nothing goes to it, none of it is left.
-use Rattle.std.specs.Prelude.{◌≡◌, ℕ, ◌+◌, ◌-◌, ◌*◌, ◌==◌, ◌<◌, nat_lt, Bool, true, false, not}
-use Rattle.std.specs.Prelude.{◌&&◌, ◌||◌, if◌then◌else◌, List, [], ◌∷◌, Option, None, Some, is_some}
+use Rattle.std.specs.Prelude.{◌≡◌, ℕ, ◌+◌, ◌-◌, ◌*◌, ◌==◌, ◌≤◌, ◌<◌, nat_lt, min, Bool, true, false}
+use Rattle.std.specs.Prelude.{not, ◌&&◌, ◌||◌, if◌then◌else◌, List, [], ◌∷◌, Option, None, Some}
+use Rattle.std.specs.Prelude.{is_some}
 use Rattle.std.specs.List.{list_any}
 use Rattle.links_10.specs.Send.{advanced, past}
 use Rattle.consume_path.specs.Deliveries as on
@@ -14,14 +15,23 @@ use Rattle.consume_path.specs.declared.receiving.ReceivingLink.{ReceivingLink}
 use Rattle.consume_path.specs.declared.receiving.RecvKind.{RecvKind}
 use Rattle.gate_outside.specs.declared.ports.End.TheVariants.{Up}
 use Rattle.gate_relay.specs.Sides.{is_readable}
-use Rattle.session_path.specs.Events.{deliveries_of}
+use Rattle.publish_path.specs.Journal.{IsTaken, fate_of, is_to_go}
+use Rattle.session_path.specs.Events as event
+use Rattle.session_path.specs.Events.{PathEvent, deliveries_of, publishes_of}
+use Rattle.gate_model.specs.declared.channel.SessionUnit.{SessionUnit}
+use Rattle.gate_model.specs.declared.channel.SessionUnit.TheVariants as unit
+use Rattle.gate_model.specs.declared.outgoing.Outgoing.TheVariants.{ToUp}
+use Rattle.gate_model.specs.declared.outgoing.UpUnit.{UpUnit}
+use Rattle.gate_model.specs.declared.outgoing.UpUnit.TheVariants as up
+use Rattle.gate_model.specs.Addresses.{address_in, target_in}
 use Rattle.gate_model.specs.Asked.{is_up_close}
 use Rattle.gate_model.specs.Credits.{in_use, is_consumer, kind_in, quota_of}
 use Rattle.gate_model.specs.Due.{pick}
 use Rattle.gate_model.specs.Folds.{container, ran_out_in, sent_up, side_in}
+use Rattle.gate_model.specs.Handles.{handle_in}
 use Rattle.gate_model.specs.Lives.{is_carried, session_in}
-use Rattle.gate_model.specs.Publishing.{path_events, path_life}
-use Rattle.gate_model.specs.State.{Step, before}
+use Rattle.gate_model.specs.Publishing.{opens_channel, path_events, path_life}
+use Rattle.gate_model.specs.State.{Gave, Step, before}
 
 -- nothing goes to the container, whose end is open, before the gateway's close; and the session of
 -- this life of channel n is between the container's begin and the gateway's end
@@ -164,3 +174,59 @@ abbrev pub FillsQuotas : List Step → Type 0
 FillsQuotas h =
     (n life k : ℕ) → IsAtRest h n life → ran_out_in h ≡ false
     → IsFilled k (deliveries_of life (path_events h n))
+
+-- ---- attaches
+
+-- an attach goes under this handle of the gateway (2.7.3)
+abbrev pub uses : ℕ → SessionUnit → Bool
+uses x (unit.Attach a) = a.handle == x
+uses x u = false
+
+-- on the session of channel n
+abbrev pub uses_up : ℕ → ℕ → UpUnit → Bool
+uses_up n x (up.OnSession m u) = (m == n) && uses x u
+uses_up n x u = false
+
+abbrev pub uses_step : ℕ → ℕ → Step → Bool
+uses_step n x (Gave (ToUp u) text) = uses_up n x u
+uses_step n x s = false
+
+-- one did in the life in progress
+abbrev pub was_used : ℕ → ℕ → List Step → Bool
+was_used n x [] = false
+was_used n x (s ∷ h) =
+    if opens_channel n h s then false else uses_step n x s || was_used n x h
+
+-- the greatest handle: that which the container's begin states, and 255 at most (2.7.2)
+abbrev pub most_handle : List PathEvent → ℕ
+most_handle [] = 255
+most_handle (event.Began handle_max ∷ es) = min 255 handle_max
+most_handle (x ∷ es) = most_handle es
+
+-- a handle is left under which no attach of the life in progress went
+pub record HasHandle (h : List Step) (n : ℕ) : Type 0 where
+  pub handle : ℕ
+  pub within : handle ≤ most_handle (path_events h n)
+  pub unused : was_used n handle h ≡ false
+
+-- a handle of the gateway stands for a sending link to this address
+pub record IsTargeted (h : List Step) (n : ℕ) (address : List ℕ) : Type 0 where
+  pub handle : ℕ
+  pub is : target_in n handle h ≡ Some address
+
+pub record AreAttached (h : List Step) (n life : ℕ) : Type 0 where
+  -- each publish of which a frame is to go has a link to its address, which the gateway attached
+  pub publishes : (k : ℕ) (address : List ℕ) → IsTaken (publishes_of life (path_events h n)) k
+      → is_to_go (fate_of k (publishes_of life (path_events h n))) ≡ true
+      → address_in n k h ≡ Some address → IsTargeted h n address
+  -- and until the life closes it attached each link that a basic.consume, a queue.declare or
+  -- a basic.get wanted
+  pub receivers : (k : ℕ) → is_closed (deliveries_of life (path_events h n)) ≡ false
+      → is_some (kind_in k (deliveries_of life (path_events h n))) ≡ true
+      → is_some (handle_in n k h) ≡ true
+
+-- so it is where nothing goes, while the pair has memory and such a handle
+abbrev pub AttachesLinks : List Step → Type 0
+AttachesLinks h =
+    (n life : ℕ) → IsAtRest h n life → ran_out_in h ≡ false → HasHandle h n
+    → AreAttached h n life

@@ -56,7 +56,7 @@ ghost use Rattle.gate_model.specs.Settles.{Grants, Settles};
 ghost use Rattle.gate_model.specs.Sources.{GetsFromItsQueue};
 ghost use Rattle.gate_model.specs.Starts.{StartsBehind};
 ghost use Rattle.gate_model.specs.State.{Step, before, owed_lines};
-ghost use Rattle.gate_model.specs.Supplies.{FillsQuotas, LeavesCredit};
+ghost use Rattle.gate_model.specs.Supplies.{AttachesLinks, FillsQuotas, LeavesCredit};
 ghost use Rattle.gate_model.specs.Takers.{TakesAsAsked};
 ghost use Rattle.gate_model.specs.Takes.{TakesInTurn};
 ghost use Rattle.gate_model.specs.Times.{BeatsAtOnce, BeatsWhenDue, LateCloses, ShutsAtOnce};
@@ -387,11 +387,17 @@ pub fn owed_units_go()
 /// consumer's live link is used: by what is left of the credit, and by the deliveries that count.
 /// On the link of a consumer that was cancelled no credit is left. Each flow of the container that
 /// asks for the state of a receiving link has one behind it, and so has each basic.get that waits.
+/// Then too, and while a handle is left that no link of the life had, each publish of which a frame
+/// is to go has a link to its address that the gateway attached; and so has each basic.consume,
+/// queue.declare and basic.get.
 pub fn links_are_supplied()
     ensures left { (h : List Step) → ArePicks h → LeavesCredit h }
     ensures filled { (h : List Step) → ArePicks h → FillsQuotas h }
+    ensures attached { (h : List Step) → ArePicks h → AttachesLinks h }
 {
     connection_laws();
+    publishes_lawfully();
+    payloads_lawfully();
     links_lawfully();
     deliveries_lawfully();
     calls_lawfully();
