@@ -51,7 +51,7 @@ use Rattle.gate_model.specs.Setup.{IsInForm, SetupText}
 use Rattle.gate_model.specs.Sources.{GetsFromItsQueue}
 use Rattle.gate_model.specs.Starts.{StartsBehind}
 use Rattle.gate_model.specs.State.{owed_lines}
-use Rattle.gate_model.specs.Supplies.{AttachesLinks, FillsQuotas, LeavesCredit}
+use Rattle.gate_model.specs.Supplies.{AttachesLinks, DetachesDone, FillsQuotas, LeavesCredit}
 use Rattle.gate_model.specs.Takers.{TakesAsAsked}
 use Rattle.gate_model.specs.Takes.{TakesInTurn}
 use Rattle.gate_model.specs.Waiting.{ChannelsEndWhenSettled, EndsWhenSettled, OpensWhenOpened}
@@ -163,6 +163,7 @@ pub record IsLawfulPair (s : SetupText) (h : List Entry) : Type 0 where
   pub supplied : SuppliesContainers (steps_of s h)
   pub filled : FillsQuotas (steps_of s h)
   pub attached : AttachesLinks (steps_of s h)
+  pub detached : DetachesDone (steps_of s h)
   pub ended : EndsContainers (steps_of s h)
   -- a client is told of the end of its connection or a channel, and of the begin of both, once the
   -- container is through

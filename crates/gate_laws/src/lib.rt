@@ -46,7 +46,7 @@ ghost use Rattle.gate_model.specs.Setup.{IsInForm, SetupText};
 ghost use Rattle.gate_model.specs.Sources.{GetsFromItsQueue};
 ghost use Rattle.gate_model.specs.Starts.{StartsBehind};
 ghost use Rattle.gate_model.specs.State.{owed_lines};
-ghost use Rattle.gate_model.specs.Supplies.{AttachesLinks, FillsQuotas, LeavesCredit};
+ghost use Rattle.gate_model.specs.Supplies.{AttachesLinks, DetachesDone, FillsQuotas, LeavesCredit};
 ghost use Rattle.gate_model.specs.Takers.{TakesAsAsked};
 ghost use Rattle.gate_model.specs.Takes.{TakesInTurn};
 ghost use Rattle.gate_model.specs.Waiting.{ChannelsEndWhenSettled, EndsWhenSettled};
@@ -160,7 +160,9 @@ pub fn requests_hold_what_follows()
 /// has each basic.get that waits.
 /// And while a handle is left that no link of the life had, each publish of which a frame is to go
 /// has a link to its address that the gateway attached, and so has each basic.consume,
-/// queue.declare and basic.get.
+/// queue.declare and basic.get. With memory or without, no link is left that the container attached
+/// for a consumer that is cancelled or for a declaration, and whose deliveries that didn't come
+/// settled all had their dispositions.
 pub fn owed_units_go()
     ensures clients { (s : SetupText) (c : Limits) (m : History) → Follows (pair_words s) c m
         → (p : ℕ) → ServesClients (steps_of s (journal p m)) }
@@ -172,6 +174,8 @@ pub fn owed_units_go()
         → (p : ℕ) → FillsQuotas (steps_of s (journal p m)) }
     ensures attached { (s : SetupText) (c : Limits) (m : History) → Follows (pair_words s) c m
         → (p : ℕ) → AttachesLinks (steps_of s (journal p m)) }
+    ensures detached { (s : SetupText) (c : Limits) (m : History) → Follows (pair_words s) c m
+        → (p : ℕ) → DetachesDone (steps_of s (journal p m)) }
 {
     entries_are_lawful();
     gate_model::owed_units_go();

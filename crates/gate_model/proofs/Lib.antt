@@ -113,6 +113,7 @@ pub mod Slots
 pub mod SmallUp
 pub mod Sources
 pub mod Spelled
+pub mod Spent
 pub mod Standing
 pub mod Starts
 pub mod Stating

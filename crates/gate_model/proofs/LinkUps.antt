@@ -21,7 +21,7 @@ use Rattle.session_path.specs.Events as event
 use Rattle.session_path.specs.Events.{PathEvent, after_event, after_events, begins, deliveries_of, delivery_events, drops, gets}
 use Rattle.session_path.specs.Laws.{AreHeard}
 use Rattle.session_path.specs.Links.{LinksState, Rises, answered, asked_as, asked_by, asked_on, at_handle, attach_fault, attached, attached_as, detached_on, drained_if}
-use Rattle.session_path.specs.Links.{failed_by, failed_on, flowed_on, free_number, given_by, given_on, gone_on, has_number, is_asked_as, is_at, is_given, is_left}
+use Rattle.session_path.specs.Links.{failed_by, failed_on, flowed_on, free_number, given_by, given_on, gone_on, has_number, is_asked_as, is_at, is_given, is_left, is_stage_asked}
 use Rattle.session_path.specs.Links.{is_stage_wanted, is_stage_whole, is_wanted, is_wanted_receiver, left_by, link_asked, link_detached, link_failed, link_flowed, linked_to, named}
 use Rattle.session_path.specs.Links.{parted, put, told_by, told_on, told_once, with_link_to, with_receiver}
 use Rattle.session_path.specs.Path.{IsThere, PathState, detaching_of, flow_of, get_link, grant_in, granting, granting_on, is_grant_next, owes_flow, queue_or, receiver_in, taking}
@@ -47,12 +47,12 @@ use Rattle.gate_model.proofs.Standing.{flows_attached}
 
 -- ---- links that are up
 
--- both ends attached it, and the gateway didn't detach
+-- both ends attached it, with a source or a target, and the gateway didn't detach
 abbrev pub is_up : Stage → Bool
 is_up stage.Wanted = false
 is_up (stage.Asked h) = false
 is_up (stage.Open h) = true
-is_up (stage.Refused h) = true
+is_up (stage.Refused h) = false
 is_up (stage.Left h) = true
 is_up (stage.Given h) = false
 is_up (stage.Failed h fault) = true
@@ -113,14 +113,16 @@ module _ (r : Bool) (n : ℕ) where
   attaches : (a : AttachHeard) (s : LinksState) → Tied s → Fit s.links → Fit (attached a s).links
   attaches a s t f = by (is_some (attach_fault a.name a.role a.peer s)) (find (is_asked_as a.name a.role) s.links) refl
     where
-      up : (there : Bool) (l : PathLink) → is_up (answered there l).stage ≡ true
-      up true l = refl
-      up false l = refl
+      down : (g : Stage) → is_stage_asked g ≡ true → is_up g ≡ true → ⊥
+      down (stage.Asked h) e u = cc
+      down g e u = absurd cc
 
       by : (b : Bool) (o : Option PathLink) → find (is_asked_as a.name a.role) s.links ≡ o → Fit (attached_as (cond b None o) a.peer a.there s).links
       by true o e = f
       by false None e = f
-      by false (Some l) e = put_fit (is_asked_as a.name a.role) s.links l (answered a.there l) t.rising e refl refl (λ u. up a.there l) f
+      by false (Some l) e =
+          let asked : is_stage_asked l.stage ≡ true = and_left _ _ (and_left _ _ (found_passes (is_asked_as a.name a.role) s.links l e)) in
+          put_fit (is_asked_as a.name a.role) s.links l (answered a.there l) t.rising e refl refl (λ u. absurd (down l.stage asked u)) f
 
   flowed : (peer : ℕ) (count : Option ℕ) (credit : ℕ) (drain echo : Bool) (s : LinksState) → Tied s → Fit s.links → Fit (link_flowed peer count credit drain echo s).links
   flowed peer count credit drain echo s t f = by (named_by s.handles peer)
@@ -252,12 +254,12 @@ module _ (r : Bool) (n : ℕ) where
   fit_after event.UpLost s t ne f = refl
   fit_after x s t ne f = f
 
--- the attach of one that is asked for
+-- the attach of one that is asked for, with a source or a target
 answered_fit : (r : Bool) (n : ℕ) (a : AttachHeard) (s : LinksState) (l : PathLink) → Tied s → asked_by a s ≡ Some l → l.link ≡ n → (not r || l.receives) ≡ true
-    → is_fit r n (attached a s).links ≡ true
-answered_fit r n a s l t e number role =
+    → a.there ≡ true → is_fit r n (attached a s).links ≡ true
+answered_fit r n a s l t e number role there =
     subst (λ (o : Option PathLink). is_fit r n (attached_as o a.peer a.there s).links ≡ true) (sym e)
-    (ap (serves_in r) (placed_here n (answered a.there l) l s.links number own) ∙ up a.there)
+    (ap (serves_in r) (placed_here n (answered a.there l) l s.links number own) ∙ up a.there there)
   where
     by : (b : Bool) → (if b then None else find (is_asked_as a.name a.role) s.links) ≡ Some l → find (is_asked_as a.name a.role) s.links ≡ Some l
     by true f = absurd cc
@@ -266,9 +268,9 @@ answered_fit r n a s l t e number role =
     own : find (has_number n) s.links ≡ Some l
     own = subst (λ (m : ℕ). find (has_number m) s.links ≡ Some l) number (found_number (is_asked_as a.name a.role) s.links l t.rising (by (is_some (attach_fault a.name a.role a.peer s)) e))
 
-    up : (b : Bool) → serves r (answered b l) ≡ true
-    up true = role
-    up false = role
+    up : (b : Bool) → b ≡ true → serves r (answered b l) ≡ true
+    up true i = role
+    up false i = absurd cc
 
 came_links : (a : AttachHeard) (s : PathState) → (after_event (event.AttachCame a) s).links ≡ attached a s.links
 came_links a s = attach_same (asked_by a s.links) a (record s { links = attached a s.links })
@@ -447,16 +449,17 @@ module _ (arrives : DeliveriesAre) (calls : CallsAre) (life n : ℕ) where
 
       by : (o : Option PathLink) → asked_by a (at es).links ≡ o → Met n (deliveries_after life (begins o a ++ ds)) → is_fit true n (at (event.AttachCame a ∷ es)).links.links ≡ true
       by None e g = on_before g
-      by (Some l) e g = role (l.link == n) refl l.receives refl a.there g
+      by (Some l) e g = role (l.link == n) refl l.receives refl a.there refl g
         where
-          role : (b : Bool) → (l.link == n) ≡ b → (c : Bool) → l.receives ≡ c → (t : Bool) → Met n (deliveries_after life ((if c && t then on.LinkAttached l.link a.count ∷ [] else []) ++ ds))
-              → is_fit true n (at (event.AttachCame a ∷ es)).links.links ≡ true
-          role true i true r t g =
+          role : (b : Bool) → (l.link == n) ≡ b → (c : Bool) → l.receives ≡ c → (t : Bool) → a.there ≡ t
+              → Met n (deliveries_after life ((if c && t then on.LinkAttached l.link a.count ∷ [] else []) ++ ds)) → is_fit true n (at (event.AttachCame a ∷ es)).links.links ≡ true
+          role true i true r true there g =
               subst (λ (z : LinksState). is_fit true n z.links ≡ true) (sym (came_links a (at es)))
-              (answered_fit true n a (at es).links l (tied_after life es) e (eq_of l.link n i) r)
-          role false i true r true g = on_before (met_before n (on.LinkAttached l.link a.count) (deliveries_after life ds) i g)
-          role false i true r false g = on_before g
-          role b i false r t g = on_before g
+              (answered_fit true n a (at es).links l (tied_after life es) e (eq_of l.link n i) r there)
+          role true i true r false there g = on_before g
+          role false i true r true there g = on_before (met_before n (on.LinkAttached l.link a.count) (deliveries_after life ds) i g)
+          role false i true r false there g = on_before g
+          role b i false r t there g = on_before g
 
   pub owns : (es : List PathEvent) → AreHeard life es → AllHold HasRoom life es → Owns es
   owns [] heard room f = absurd cc
@@ -648,11 +651,14 @@ module _ (n : ℕ) where
 
       by : (o : Option PathLink) → asked_by a s.links ≡ o → Sent (attached_as o a.peer a.there s.links).sending → is_fit false n (after_event (event.AttachCame a) s).links.links ≡ true
       by None i f = on_before f
-      by (Some l) i f = one (l.link == n) refl
+      by (Some l) i f = one (l.link == n) refl a.there refl f
         where
-          one : (b : Bool) → (l.link == n) ≡ b → is_fit false n (after_event (event.AttachCame a) s).links.links ≡ true
-          one true g = subst (λ (z : LinksState). is_fit false n z.links ≡ true) (sym (came_links a s)) (answered_fit false n a s.links l t i (eq_of l.link n g) refl)
-          one false g = on_before (answered_sent l a.peer a.there s.links g f)
+          one : (b : Bool) → (l.link == n) ≡ b → (t : Bool) → a.there ≡ t → Sent (attached_as (Some l) a.peer t s.links).sending
+              → is_fit false n (after_event (event.AttachCame a) s).links.links ≡ true
+          one true g true there f =
+              subst (λ (z : LinksState). is_fit false n z.links ≡ true) (sym (came_links a s)) (answered_fit false n a s.links l t i (eq_of l.link n g) refl there)
+          one true g false there f = on_before f
+          one false g there is f = on_before (answered_sent l a.peer there s.links g f)
 
   pub sends_up : (life : ℕ) (es : List PathEvent) → Sent (after_events life es).links.sending → is_fit false n (after_events life es).links.links ≡ true
   sends_up life [] e = absurd cc

@@ -9,10 +9,11 @@ use Rattle.consume_path.specs.Deliveries as on
 use Rattle.consume_path.specs.Deliveries.{DeliveryEvent}
 use Rattle.consume_path.specs.Deliveries.{after_events as deliveries_after}
 use Rattle.consume_path.specs.Journal.{is_closed}
-use Rattle.consume_path.specs.Laws.{joined_of, pieces_of}
+use Rattle.consume_path.specs.Laws.{are_covered, joined_of, pieces_of}
 use Rattle.consume_path.specs.Links.{link_of}
 use Rattle.consume_path.specs.declared.receiving.ReceivingLink.{ReceivingLink}
 use Rattle.consume_path.specs.declared.receiving.RecvKind.{RecvKind}
+use Rattle.consume_path.specs.declared.receiving.RecvKind.TheVariants.{Consumer, Get, Probe}
 use Rattle.gate_outside.specs.declared.ports.End.TheVariants.{Up}
 use Rattle.gate_relay.specs.Sides.{is_readable}
 use Rattle.publish_path.specs.Journal.{IsTaken, fate_of, is_to_go}
@@ -230,3 +231,27 @@ abbrev pub AttachesLinks : List Step → Type 0
 AttachesLinks h =
     (n life : ℕ) → IsAtRest h n life → ran_out_in h ≡ false → HasHandle h n
     → AreAttached h n life
+
+-- ---- detaches
+
+-- nothing is to come any more: of a consumer's link once that was cancelled, and of a declaration's
+abbrev pub ends : Bool → RecvKind → Bool
+ends cancelled (Consumer tag no_ack) = cancelled
+ends cancelled Get = false
+ends cancelled Probe = true
+
+abbrev pub ends_in : Bool → Option RecvKind → Bool
+ends_in cancelled None = false
+ends_in cancelled (Some kind) = ends cancelled kind
+
+-- the container attached link k, nothing is to come of it, each of its deliveries that didn't come
+-- settled had its disposition, and the gateway's detach didn't go (2.6.6, 2.7.6)
+abbrev pub is_done : ℕ → List DeliveryEvent → Bool
+is_done k ds =
+    ends_in (is_cancelled k ds) (kind_in k ds) && (is_attached k ds && are_covered k ds)
+
+-- no such link is left where nothing goes, until the life closes
+abbrev pub DetachesDone : List Step → Type 0
+DetachesDone h =
+    (n life k : ℕ) → IsAtRest h n life → is_closed (deliveries_of life (path_events h n)) ≡ false
+    → is_done k (deliveries_of life (path_events h n)) ≡ false

@@ -56,7 +56,7 @@ ghost use Rattle.gate_model.specs.Settles.{Grants, Settles};
 ghost use Rattle.gate_model.specs.Sources.{GetsFromItsQueue};
 ghost use Rattle.gate_model.specs.Starts.{StartsBehind};
 ghost use Rattle.gate_model.specs.State.{Step, before, owed_lines};
-ghost use Rattle.gate_model.specs.Supplies.{AttachesLinks, FillsQuotas, LeavesCredit};
+ghost use Rattle.gate_model.specs.Supplies.{AttachesLinks, DetachesDone, FillsQuotas, LeavesCredit};
 ghost use Rattle.gate_model.specs.Takers.{TakesAsAsked};
 ghost use Rattle.gate_model.specs.Takes.{TakesInTurn};
 ghost use Rattle.gate_model.specs.Times.{BeatsAtOnce, BeatsWhenDue, LateCloses, ShutsAtOnce};
@@ -389,11 +389,14 @@ pub fn owed_units_go()
 /// asks for the state of a receiving link has one behind it, and so has each basic.get that waits.
 /// Then too, and while a handle is left that no link of the life had, each publish of which a frame
 /// is to go has a link to its address that the gateway attached; and so has each basic.consume,
-/// queue.declare and basic.get.
+/// queue.declare and basic.get. With memory or without, no link is left that the container attached
+/// for a consumer that is cancelled or for a declaration, and whose deliveries that didn't come
+/// settled all had their dispositions.
 pub fn links_are_supplied()
     ensures left { (h : List Step) → ArePicks h → LeavesCredit h }
     ensures filled { (h : List Step) → ArePicks h → FillsQuotas h }
     ensures attached { (h : List Step) → ArePicks h → AttachesLinks h }
+    ensures detached { (h : List Step) → ArePicks h → DetachesDone h }
 {
     connection_laws();
     publishes_lawfully();
@@ -405,6 +408,7 @@ pub fn links_are_supplied()
     counts_lawfully();
     numbers_lawfully();
     names_lawfully();
+    settles_lawfully();
     owed_units_go();
 }
 

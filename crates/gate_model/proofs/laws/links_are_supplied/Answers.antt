@@ -1,6 +1,7 @@
 use Rattle.gate_model.proofs.Filling.{fills_quotas, leaves_credit}
 use Rattle.gate_model.proofs.Frames.{within}
 use Rattle.gate_model.proofs.Images.{life_below}
+use Rattle.gate_model.proofs.Spent.{detaches_done}
 use Rattle.gate_model.proofs.Wanting.{attaches_links}
 use Rattle.gate_model.proofs.laws.links_are_supplied.Goals as goal
 
@@ -19,4 +20,5 @@ returns c =
       filled = fills_quotas arrives closed calls counts joined tied queues below c.owed_units_go.ensures.containers;
       attached = attaches_links arrives closed calls joined tied queues c.publishes_lawfully.ensures c.payloads_lawfully.ensures.frame c.payloads_lawfully.ensures.rest below
           c.owed_units_go.ensures.containers;
+      detached = detaches_done arrives closed calls joined tied queues c.settles_lawfully.ensures.covered below c.owed_units_go.ensures.containers;
     }
