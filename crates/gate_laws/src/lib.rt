@@ -154,15 +154,14 @@ pub fn requests_hold_what_follows()
 /// each session that is begun has nothing owed: no disposition is due, no link is to be detached,
 /// and while the pair has memory no publish may be transferred, no credit is to be stated, and no
 /// link to be attached. Nor is a begin, a flow of a session, an end or the close. So while the pair
-/// has memory more than half of the quota of each consumer's live link is used: by what is left of
-/// the credit, and by the deliveries that count. On one whose consumer was cancelled none is left.
+/// has memory more than half of the quota of each consumer's live link is used, by what is left of
+/// the credit and by the deliveries that count. On one whose consumer was cancelled none is left.
 /// Each flow of the container that asks for the state of a receiving link has one behind it, and so
-/// has each basic.get that waits.
-/// And while a handle is left that no link of the life had, each publish of which a frame is to go
-/// has a link to its address that the gateway attached, and so has each basic.consume,
-/// queue.declare and basic.get. With memory or without, no link is left that the container attached
-/// for a consumer that is cancelled or for a declaration, and whose deliveries that didn't come
-/// settled all had their dispositions.
+/// has each basic.get that waits. While a handle is left that no link of the life had, each publish
+/// of which a frame is to go has a link to its address. So has each basic.consume, queue.declare
+/// and basic.get its own. With memory or without, no link is left that the container attached for
+/// a declaration or a cancelled consumer, once each of its deliveries that didn't come settled had
+/// its disposition.
 pub fn owed_units_go()
     ensures clients { (s : SetupText) (c : Limits) (m : History) → Follows (pair_words s) c m
         → (p : ℕ) → ServesClients (steps_of s (journal p m)) }

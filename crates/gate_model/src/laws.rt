@@ -382,16 +382,15 @@ pub fn owed_units_go()
 }
 
 /// What is left of a receiving link's credit is what the container's attach and flows, the
-/// gateway's flows and the deliveries that began leave of it. Where nothing goes to the container
-/// before the gateway's close, while the pair has memory, more than half of the quota of each
-/// consumer's live link is used: by what is left of the credit, and by the deliveries that count.
+/// gateway's flows and the deliveries that began leave of it. The rest is said of where nothing
+/// goes to the container before the gateway's close. While the pair has memory, more than half of
+/// the quota of each consumer's live link is used, by that credit and by the deliveries that count.
 /// On the link of a consumer that was cancelled no credit is left. Each flow of the container that
 /// asks for the state of a receiving link has one behind it, and so has each basic.get that waits.
-/// Then too, and while a handle is left that no link of the life had, each publish of which a frame
-/// is to go has a link to its address that the gateway attached; and so has each basic.consume,
-/// queue.declare and basic.get. With memory or without, no link is left that the container attached
-/// for a consumer that is cancelled or for a declaration, and whose deliveries that didn't come
-/// settled all had their dispositions.
+/// Then too, while a handle is left that no link of the life had, each publish of which a frame is
+/// to go has a link to its address. So has each basic.consume, queue.declare and basic.get its own.
+/// With memory or without, no link is left that the container attached for a declaration or
+/// a cancelled consumer, once each of its deliveries that didn't come settled had its disposition.
 pub fn links_are_supplied()
     ensures left { (h : List Step) → ArePicks h → LeavesCredit h }
     ensures filled { (h : List Step) → ArePicks h → FillsQuotas h }
