@@ -48,7 +48,7 @@ use Rattle.gate_model.specs.Publishing.{path_life}
 use Rattle.gate_model.specs.Queue.{channel_of, holds, is_empty, unit_at, waits_for_all}
 use Rattle.gate_model.specs.Requests.{client_told}
 use Rattle.gate_model.specs.State.{Began, Came, Fed, Gave, Heard, Joined, Lost, Moment, Queued, Silent, State, Step, TakenUp, Whole}
-use Rattle.gate_model.specs.State.{before, begun_session, came, carried, close, close_if, closed_for, closing_code, closing_error, conn_given, dequeued, ending_error}
+use Rattle.gate_model.specs.State.{before, begun_session, came, carried, close_if, closed_for, closing_code, closing_error, conn_given, dequeued, ending_error}
 use Rattle.gate_model.specs.State.{fail, fail_life, failed, is_limit_reached, left, life_failed, life_waits, link_scope, next_unit, place, runs, scoped}
 use Rattle.gate_model.specs.State.{session_lost, sessions_lost, waits, want_in, windowed, with_meaning, with_session, without_begin, without_life}
 use Rattle.gate_model.specs.Upstream.{heard_up, meaning_by}
@@ -65,10 +65,10 @@ use Rattle.gate_model.proofs.Turning.{Finds, client_turns, closing_turns, method
 
 -- ---- the life of a channel by its state
 
-record IsClear (l : Life) : Type 0 where
+pub record IsClear (l : Life) : Type 0 where
   told : l.told ≡ false
-  ok : l.close_ok ≡ false
-  close : l.close ≡ None
+  pub ok : l.close_ok ≡ false
+  pub close : l.close ≡ None
 
 -- the gateway's channel.close didn't go, and where the client's is answered it goes no more
 record Closes (l : Life) : Type 0 where
@@ -437,6 +437,14 @@ pub open_lives : (h : List Step) (n : ℕ) → n < 256 → ArePicks h → is_ope
 open_lives h n less p e =
     let o : is_open (before h).conn n ≡ true = ap (λ (c : Connection). is_open c n) (conn_is (known h p)) ∙ e in
     (subst (λ (s : Channel91). Fits (is_some (path_life h n)) s (life_at (before h).lives n)) (open_at (before h).conn n o) (fits n h less p)).1
+
+-- of one that is open nothing that ends its life is due
+pub open_clear : (h : List Step) (n : ℕ) → n < 256 → ArePicks h → is_open (before h).conn n ≡ true → IsClear (life_at (before h).lives n)
+open_clear h n less p e = (subst (λ (s : Channel91). Fits (is_some (path_life h n)) s (life_at (before h).lives n)) (open_at (before h).conn n e) (fits n h less p)).0
+
+-- nor of one that is free
+pub free_clear : (h : List Step) (n : ℕ) → n < 256 → ArePicks h → channel_at (before h).conn n ≡ channel.Free → IsClear (life_at (before h).lives n)
+free_clear h n less p e = subst (λ (s : Channel91). Fits (is_some (path_life h n)) s (life_at (before h).lives n)) e (fits n h less p)
 
 -- ---- a channel that is opened
 

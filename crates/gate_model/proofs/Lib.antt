@@ -6,6 +6,7 @@ pub mod Attaching
 pub mod Awaiting
 pub mod Backs
 pub mod Basics
+pub mod Becoming
 pub mod Begins
 pub mod Behind
 pub mod Brought
@@ -81,6 +82,7 @@ pub mod Losing
 pub mod Orders
 pub mod Outcomes
 pub mod Overs
+pub mod Owes
 pub mod Owing
 pub mod Parted
 pub mod Passed

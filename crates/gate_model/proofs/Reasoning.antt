@@ -39,7 +39,7 @@ use Rattle.gate_model.specs.Folds.{Peers, connection, container, is_answer, path
 use Rattle.gate_model.specs.Lives.{begun_life, failed_life, freed_life, is_of_channel, life_at, lives_by, method_life, no_lives, reason_of, refusal_on}
 use Rattle.gate_model.specs.Lives.{with_life}
 use Rattle.gate_model.specs.Once.{one_if, went_in}
-use Rattle.gate_model.specs.Paths.{closed_path, lost_path, path_at}
+use Rattle.gate_model.specs.Paths.{closed_path, path_at}
 use Rattle.gate_model.specs.Picks.{ArePicks}
 use Rattle.gate_model.specs.Session.{carried_by}
 use Rattle.gate_model.specs.Reasons.{ClosesOnce, MaySay, SaysWhy, is_close_on, reason_at, reason_in, reason_meant, reason_scoped, reason_wanted, reason_with, reasons_in}
@@ -117,7 +117,7 @@ fail_says n code why w v s = by (is_closing v.conn)
     by false = s
 
 -- what a performative of the state's session closes
-abbrev reason_state : State → ℕ → ℕ → Parts → List ℕ → Option Reason
+abbrev pub reason_state : State → ℕ → ℕ → Parts → List ℕ → Option Reason
 reason_state w n k q payload =
     if k == n && is_open w.conn n then reason_scoped (link_scope q payload (session_on w n) (path_at w.paths n)) n q payload (path_at w.paths n) else None
 
@@ -251,7 +251,7 @@ session_says n k q payload w = by (k == n) refl
     by false e = other e (link_scope q payload (session_on w k) (path_at w.paths k))
 
 -- what the state's session says is what the fold's does
-abbrev reason_by : State → ℕ → Meaning → Option Reason
+abbrev pub reason_by : State → ℕ → Meaning → Option Reason
 reason_by w n (ten.OfSession k q payload) = reason_state w n k q payload
 reason_by w n m = None
 
@@ -269,7 +269,7 @@ meaning_says n (ten.Closed x) w = fail_says n _ _ w w (same _ _ refl)
 meaning_says n ten.Refused w = fail_says n _ _ w w (same _ _ refl)
 meaning_says n (ten.Violation x) w = fail_says n _ _ w w (same _ _ refl)
 
-reasons_same : (n : ℕ) (m : Meaning) (w : State) (o : Peers) → w.conn ≡ o.client → w.paths ≡ o.paths → session_on w n ≡ o.carried n → reason_by w n m ≡ reason_meant o n m
+pub reasons_same : (n : ℕ) (m : Meaning) (w : State) (o : Peers) → w.conn ≡ o.client → w.paths ≡ o.paths → session_on w n ≡ o.carried n → reason_by w n m ≡ reason_meant o n m
 reasons_same n (ten.OfSession k q payload) w o c p s =
     ap (λ (d : Connection). if k == n && is_open d n then reason_scoped (link_scope q payload (session_on w n) (path_at w.paths n)) n q payload (path_at w.paths n) else None) c
     ∙ ap (λ (ps : List (Option PathState)). if k == n && is_open o.client n then reason_scoped (link_scope q payload (session_on w n) (path_at ps n)) n q payload (path_at ps n) else None) p

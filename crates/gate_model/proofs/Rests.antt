@@ -100,7 +100,7 @@ if_so_none b us e f = ap (λ (c : Bool). if_so c us) (sym e) ∙ f
 unless_none : {A : Type 0} (b : Bool) (us : List A) → b ≡ false → (if b then [] else us) ≡ [] → us ≡ []
 unless_none b us e f = ap (λ (c : Bool). if c then [] else us) (sym e) ∙ f
 
-when_none : (b : Bool) (u : Reply) → when b u ≡ [] → b ≡ false
+pub when_none : (b : Bool) (u : Reply) → when b u ≡ [] → b ≡ false
 when_none true u e = absurd cc
 when_none false u e = refl
 

@@ -26,6 +26,7 @@ pub mod Losses
 pub mod Oks
 pub mod Once
 pub mod Order
+pub mod Owes
 pub mod Parting
 pub mod Passed
 pub mod Paths

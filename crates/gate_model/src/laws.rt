@@ -33,6 +33,7 @@ ghost use Rattle.gate_model.specs.Losses.{LosesPublishes};
 ghost use Rattle.gate_model.specs.Oks.{AnswersInOrder};
 ghost use Rattle.gate_model.specs.Once.{AnswersOnce};
 ghost use Rattle.gate_model.specs.Order.{TakesInOrder};
+ghost use Rattle.gate_model.specs.Owes.{EndsClients};
 ghost use Rattle.gate_model.specs.Parting.{StopsWhenClosed};
 ghost use Rattle.gate_model.specs.Passed.{StatesPassed};
 ghost use Rattle.gate_model.specs.Paths.{slot_at};
@@ -410,6 +411,18 @@ pub fn links_are_supplied()
     settles_lawfully();
     owed_units_go();
 }
+
+/// Where nothing goes to the client, each channel that is open had its channel.open-ok, where the
+/// container began its session. While what ends channels may go, each channel.close of the client
+/// had its close-ok, once nothing of the container is waited for on its channel; and one that
+/// crossed the gateway's in any case. Each step with a reason to close a channel was followed by the
+/// gateway's channel.close or the client's, where nothing is waited for and the client didn't close
+/// the connection. Of the connection the replies to what came went; but for its close and its
+/// close-ok while the upstream end is waited for. After the pair ran out of memory the last units
+/// went.
+pub fn clients_get_what_is_due()
+    ensures { (h : List Step) → ArePicks h → EndsClients h }
+{}
 
 /// What was sent to a client, without heartbeats, and what is due to it are the replies to its
 /// units and to what happened upstream, in their order: to the protocol header connection.start, to

@@ -15,7 +15,7 @@ mod timers;
 
 pub use channel::{AttachOut, ChannelUnit, LinkFlow, SessionUnit, TransferOut};
 pub use laws::{
-    attaches_go_once, channels_are_answered_once, clients_are_answered,
+    attaches_go_once, channels_are_answered_once, clients_are_answered, clients_get_what_is_due,
     closed_channels_get_no_answers, closes_say_why, confirms_are_lawful,
     confirms_count_from_select, consumers_are_told_first, containers_are_asked,
     containers_are_left, containers_name_their_links, contents_are_written,
