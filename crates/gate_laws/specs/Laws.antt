@@ -35,6 +35,7 @@ use Rattle.gate_model.specs.Holding.{HoldsFew, TakesWithRoom}
 use Rattle.gate_model.specs.Linger.{Lingers}
 use Rattle.gate_model.specs.LinkCredits.{CreditIsKept}
 use Rattle.gate_model.specs.Losses.{LosesPublishes}
+use Rattle.gate_model.specs.Owes.{EndsClients}
 use Rattle.gate_model.specs.Parting.{StopsWhenClosed}
 use Rattle.gate_model.specs.Passed.{StatesPassed}
 use Rattle.gate_model.specs.Publishing.{ArePieces, Confirms, EndWhole, Returns, Transfers}
@@ -165,6 +166,7 @@ pub record IsLawfulPair (s : SetupText) (h : List Entry) : Type 0 where
   pub attached : AttachesLinks (steps_of s h)
   pub detached : DetachesDone (steps_of s h)
   pub ended : EndsContainers (steps_of s h)
+  pub replied : EndsClients (steps_of s h)
   -- a client is told of the end of its connection or a channel, and of the begin of both, once the
   -- container is through
   pub ends : EndsWhenSettled (steps_of s h)

@@ -30,6 +30,7 @@ ghost use Rattle.gate_model.specs.Holding.{HoldsFew, TakesWithRoom};
 ghost use Rattle.gate_model.specs.Linger.{Lingers};
 ghost use Rattle.gate_model.specs.LinkCredits.{CreditIsKept};
 ghost use Rattle.gate_model.specs.Losses.{LosesPublishes};
+ghost use Rattle.gate_model.specs.Owes.{EndsClients};
 ghost use Rattle.gate_model.specs.Parting.{StopsWhenClosed};
 ghost use Rattle.gate_model.specs.Passed.{StatesPassed};
 ghost use Rattle.gate_model.specs.Publishing.{ArePieces, Confirms, EndWhole, Returns, Transfers};
@@ -162,6 +163,10 @@ pub fn requests_hold_what_follows()
 /// and basic.get its own. With memory or without, no link is left that the container attached for
 /// a declaration or a cancelled consumer, once each of its deliveries that didn't come settled had
 /// its disposition.
+/// Where nothing goes to a client, no channel.open-ok is owed on a channel that is open, and none of
+/// what ends channels, once nothing of the container is waited for there: neither a close-ok to the
+/// client's channel.close nor the gateway's own. Of the connection the replies to what came went,
+/// but for its close and its close-ok while the upstream end is waited for.
 pub fn owed_units_go()
     ensures clients { (s : SetupText) (c : Limits) (m : History) → Follows (pair_words s) c m
         → (p : ℕ) → ServesClients (steps_of s (journal p m)) }
@@ -175,11 +180,14 @@ pub fn owed_units_go()
         → (p : ℕ) → AttachesLinks (steps_of s (journal p m)) }
     ensures detached { (s : SetupText) (c : Limits) (m : History) → Follows (pair_words s) c m
         → (p : ℕ) → DetachesDone (steps_of s (journal p m)) }
+    ensures replies { (s : SetupText) (c : Limits) (m : History) → Follows (pair_words s) c m
+        → (p : ℕ) → EndsClients (steps_of s (journal p m)) }
 {
     entries_are_lawful();
     gate_model::owed_units_go();
     gate_model::sessions_get_what_is_due();
     gate_model::links_are_supplied();
+    gate_model::clients_get_what_is_due();
 }
 
 /// On each channel no more channel.open-oks went than channel.opens were taken up, and the same of

@@ -8,4 +8,5 @@ returns c = record {
   filled = λ s l m f p. c.links_are_supplied.ensures.filled _ (c.entries_are_lawful.ensures.picks s l m f p);
   attached = λ s l m f p. c.links_are_supplied.ensures.attached _ (c.entries_are_lawful.ensures.picks s l m f p);
   detached = λ s l m f p. c.links_are_supplied.ensures.detached _ (c.entries_are_lawful.ensures.picks s l m f p);
+  replies = λ s l m f p. c.clients_get_what_is_due.ensures _ (c.entries_are_lawful.ensures.picks s l m f p);
 }

@@ -76,6 +76,7 @@ returns c = λ s l m f n. at s l (drop n m) (follows_to (pair_words s) l m n f)
         filled = c.owed_units_go.ensures.filled s l m f p;
         attached = c.owed_units_go.ensures.attached s l m f p;
         detached = c.owed_units_go.ensures.detached s l m f p;
+        replied = c.owed_units_go.ensures.replies s l m f p;
         ends = c.replies_wait.ensures.ends s l m f p;
         channels = c.replies_wait.ensures.channels s l m f p;
         opens = c.replies_wait.ensures.opens s l m f p;
