@@ -165,8 +165,10 @@ pub fn requests_hold_what_follows()
 /// its disposition.
 /// Where nothing goes to a client, no channel.open-ok is owed on a channel that is open, and none of
 /// what ends channels, once nothing of the container is waited for there: neither a close-ok to the
-/// client's channel.close nor the gateway's own. Of the connection the replies to what came went,
-/// but for its close and its close-ok while the upstream end is waited for.
+/// client's channel.close nor the gateway's own. No return that is begun has a frame left, while the
+/// pair has memory and the connection isn't closing or its container closed it. Of the connection
+/// the replies to what came went, but for its close and its close-ok while the upstream end is
+/// waited for.
 pub fn owed_units_go()
     ensures clients { (s : SetupText) (c : Limits) (m : History) → Follows (pair_words s) c m
         → (p : ℕ) → ServesClients (steps_of s (journal p m)) }

@@ -583,6 +583,14 @@ module _ (frames : ContentIs) (ends : ClosedEnds) (below : BegunBelow) (delivers
       let r = is_later (publishes_of x.life (path_events h n)) number (on_is _ number _ _ _ (returned h n number x.life p x.lives) x.begun x.left) in
       record { due = r.due; is = next_is h n x.life p (back_below h n number p x.begun) x.lives ∙ r.is; later = r.later }
 
+  no_frame_left : (h : List Step) (n number : ℕ) → ArePicks h → contents (before h) ≡ [] → IsReturned h n number → ⊥
+  no_frame_left h n number p none x =
+      let r = back_due h n number p x in
+      let is : contents_on (before h).paths n (life_at (before h).lives n) ≡ [] =
+      row_none (contents_on (before h).paths) n (before h).lives (has_life h n p (back_below h n number p x.begun)) none in
+      let one : reply.OnChannel n (to_client.Return r.due) ∷ [] ≡ [] =
+      sym (ap (content_on n) r.is ∙ ap (λ (b : Bool). when (not b) (reply.OnChannel n (to_client.Return r.due))) r.later) ∙ is in cc
+
   -- and one that is due, but for its first frame, is begun
   due_back : (h : List Step) (n : ℕ) (r : NextReturn) → ArePicks h → next_return (path_at (before h).paths n) ≡ Some r → r.first ≡ false → IsReturned h n r.publish
   due_back h n r p e later = by (slot_at (before h).paths n) refl e
@@ -679,12 +687,7 @@ module _ (frames : ContentIs) (ends : ClosedEnds) (below : BegunBelow) (delivers
 
       -- one is due
       back_there : (n number : ℕ) → IsReturned h n number → contents w ≡ [] → ⊥
-      back_there n number y none =
-          let r = back_due h n number p y in
-          let is : contents_on w.paths n (life_at w.lives n)
-          ≡ [] = row_none (contents_on w.paths) n w.lives (has_life h n p (back_below h n number p y.begun)) none in
-          let one : reply.OnChannel n (to_client.Return r.due) ∷ [] ≡ [] =
-          sym (ap (content_on n) r.is ∙ ap (λ (b : Bool). when (not b) (reply.OnChannel n (to_client.Return r.due))) r.later) ∙ is in cc
+      back_there n number y none = no_frame_left h n number p none y
 
       frame_there : (n : ℕ) → IsBegun h n → writings w ≡ [] → ⊥
       frame_there n y none =
@@ -728,6 +731,11 @@ module _ (frames : ContentIs) (ends : ClosedEnds) (below : BegunBelow) (delivers
   together [] p = tt
   together (Gave (ToClient u) text ∷ h) p = (goes_on h u p.1 p.0.1, together h p.1)
   together (s ∷ h) p = together h p.1
+
+-- where no row has a frame of a return, none is begun
+pub none_returned : ContentIs → ClosedEnds → BegunBelow → DeliversHold → PublishesAre → ReturnsAre → BacksAre → (h : List Step) → ArePicks h → contents (before h) ≡ []
+    → (n number : ℕ) → IsReturned h n number → ⊥
+none_returned frames ends below delivers publishes returns texts h p none n number x = no_frame_left frames ends below delivers publishes returns texts h n number p none x
 
 pub stand_together : ContentIs → ClosedEnds → BegunBelow → DeliversHold → PublishesAre → ReturnsAre → BacksAre → (h : List Step) → ArePicks h → StandTogether h
 stand_together frames ends below delivers publishes returns texts h p = together frames ends below delivers publishes returns texts h p

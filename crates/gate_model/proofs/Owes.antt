@@ -1,17 +1,18 @@
 -- Where nothing goes to a client, it is owed no channel.open-ok, no channel.close and no close-ok, and no reply of its connection.
-use Rattle.std.proofs.Common.{◌≡◌, ℕ, ◌+◌, ◌==◌, ◌<◌, not, ◌&&◌, ◌||◌, Bool, true, false, if◌then◌else◌, List, [], ◌∷◌, ◌++◌, append-nil}
+use Rattle.std.proofs.Common.{◌≡◌, ◌⊎◌, ℕ, ◌+◌, ◌==◌, ◌<◌, not, ◌&&◌, ◌||◌, Bool, true, false, if◌then◌else◌, List, [], ◌∷◌, ◌++◌, append-nil}
 use Rattle.std.proofs.Common.{Option, None, Some, is_some, refl, sym, ap, ◌∙◌, subst}
 use Rattle.std.specs.List.{AllByRecursion}
 use Rattle.gate_outside.specs.declared.ports.End.TheVariants.{Client}
 use Rattle.gate_relay.specs.Sides.{is_readable}
 use Rattle.gate_relay.specs.declared.sides.Side.{Side}
-use Rattle.machine_091.specs.State.{is_open}
+use Rattle.machine_091.specs.State.{is_closing, is_open}
 use Rattle.machine_091.specs.declared.state.Connection.{Connection}
 use Rattle.machine_091.specs.declared.unit.Refusal.{Refusal}
 use Rattle.machine_10.specs.declared.state.Upstream.{Upstream}
 use Rattle.gate_model.specs.Answers.{AreReplies}
 use Rattle.gate_model.specs.Begins.{begun_at, has_begun, said_or}
 use Rattle.gate_model.specs.Closes.{tells_close}
+use Rattle.gate_model.specs.Contents.{IsReturned}
 use Rattle.gate_model.specs.Due.{answers, channel_closes, channel_oks, client_rows, client_units, close_oks, close_oks_on, closes, confirms, contents, delivers, gets}
 use Rattle.gate_model.specs.Due.{consume_oks, if_so, is_closed_phase, last_closes, may_answer, may_end, may_go, may_return, may_tell, open_oks, openings, path_oks, pick}
 use Rattle.gate_model.specs.Due.{refused_on, rows, when, writings}
@@ -20,6 +21,7 @@ use Rattle.gate_model.specs.Lives.{is_done, life_at, session_in, with_life}
 use Rattle.gate_model.specs.Once.{is_open_ok_on}
 use Rattle.gate_model.specs.Owes.{EndsClients, IsReplied, MayEnd, OwesNone, closes_channel, has_opened, is_crossed_ok}
 use Rattle.gate_model.specs.Owes.{is_own_ok, is_to_answer, is_to_close, is_to_cross, tells}
+use Rattle.gate_model.specs.Parting.{ended_by_container}
 use Rattle.gate_model.specs.Picks.{ArePicks}
 use Rattle.gate_model.specs.Publishing.{opens_channel, path_life}
 use Rattle.gate_model.specs.Reasons.{is_close_on, reason_at}
@@ -33,15 +35,18 @@ use Rattle.gate_model.specs.declared.reply.Pending.{Pending}
 use Rattle.gate_model.specs.declared.reply.Reason.{Reason}
 use Rattle.gate_model.specs.declared.reply.Reply.{Reply}
 use Rattle.gate_model.specs.declared.reply.Reply.TheVariants as reply
+use Rattle.gate_model.proofs.Backs.{BacksAre, ReturnsAre}
 use Rattle.gate_model.proofs.Basics.{and_both, and_right, or_left, or_right, right_false}
 use Rattle.gate_model.proofs.Becoming.{Becomes, Begins, Closes, Fails, Frees, IsPlain, Opens, Shut, Stays, step_becomes}
 use Rattle.gate_model.proofs.Begins.{Awaits, Begun, begun}
 use Rattle.gate_model.proofs.Begins as begins
 use Rattle.gate_model.proofs.Clear.{open_lives}
 use Rattle.gate_model.proofs.Connections.{clash}
-use Rattle.gate_model.proofs.Contents.{is_calm, may_write}
+use Rattle.gate_model.proofs.Contents.{BegunBelow, ClosedEnds, ContentIs, DeliversHold, is_calm, may_write, none_returned}
+use Rattle.gate_model.proofs.Fates.{PublishesAre}
 use Rattle.gate_model.proofs.Known.{Known, conn_is, container_is, known, memory_is, side_is, silent_is}
 use Rattle.gate_model.proofs.Living.{step_leaves, was_open}
+use Rattle.gate_model.proofs.Owing.{still_tells}
 use Rattle.gate_model.proofs.Places.{Beyond, Elsewhere, Here, SetAt, itself, set_at}
 use Rattle.gate_model.proofs.Rests.{if_so_none, none_in, when_none}
 use Rattle.gate_model.proofs.Rows.{left_none, right_none, row_none}
@@ -331,6 +336,7 @@ abbrev pending_in : State → Pending
 pending_in w = may_go (is_settled w) w.pending
 
 record NoRow (w : State) : Type 0 where
+  content : if_so (may_return w) (contents w) ≡ []
   opening : openings (pending_in w) ≡ []
   answer : if_so (may_answer w) (answers w) ≡ []
   ok : close_oks (pending_in w) ≡ []
@@ -340,6 +346,7 @@ record NoRow (w : State) : Type 0 where
 
 no_row : (w : State) → pick w Client ≡ None → NoRow w
 no_row w e = record {
+  content = left_none (if_so (may_return w) (contents w)) _ units;
   opening = left_none (openings (pending_in w)) (answered ++ confirmed) opened;
   answer = left_none answered confirmed behind;
   ok = left_none (close_oks (pending_in w)) ended confirms_none;
@@ -522,8 +529,17 @@ replied h p none = record {
 
 -- ---- the law
 
-pub ends_clients : (h : List Step) → ArePicks h → EndsClients h
-ends_clients h p e = record { channels = λ n less. owes_none h n less p none; connection = replied h p none }
-  where
-    none : NoRow (before h)
-    none = no_row (before h) e
+module _ (frames : ContentIs) (ends : ClosedEnds) (begun : BegunBelow) (delivers : DeliversHold) (publishes : PublishesAre) (returned : ReturnsAre) (texts : BacksAre) where
+  none_goes_back : (h : List Step) → ArePicks h → NoRow (before h) → ran_out_in h ≡ false → (is_closing (connection h) ≡ false) ⊎ (ended_by_container h ≡ true)
+      → (n number : ℕ) → IsReturned h n number → ⊥
+  none_goes_back h p none memory on =
+      none_returned frames ends begun delivers publishes returned texts h p (if_so_none (may_return (before h)) (contents (before h)) may none.content)
+    where
+      may : may_return (before h) ≡ true
+      may = ap (λ (b : Bool). not b && (not (is_closing (before h).conn) || (before h).by_peer)) (memory_is (known h p) ∙ memory) ∙ still_tells h p on
+
+  pub ends_clients : (h : List Step) → ArePicks h → EndsClients h
+  ends_clients h p e = record { channels = λ n less. owes_none h n less p none; connection = replied h p none; returns = none_goes_back h p none }
+    where
+      none : NoRow (before h)
+      none = no_row (before h) e

@@ -491,6 +491,15 @@ ended_peer (s ∷ h) p e = by (is_closing (connection h)) refl (is_closing (conn
         let x = both k' (is_containers s) i in
         (step_ends s h p).new x.1 (ap is_closing (conn_is (known h p.1)) ∙ f) (ap is_closing (conn_is (known (s ∷ h) p)) ∙ g ∙ x.0)
 
+-- the connection isn't closing, or its container closed it
+pub still_tells : (h : List Step) → ArePicks h → (is_closing (connection h) ≡ false) ⊎ (ended_by_container h ≡ true) → (not (is_closing (before h).conn) || (before h).by_peer) ≡ true
+still_tells h p (inl e) = ap (λ (b : Bool). not b || (before h).by_peer) (ap is_closing (conn_is (known h p)) ∙ e)
+still_tells h p (inr e) = by (is_closing (before h).conn) (before h).by_peer (ended_peer h p e)
+  where
+    by : (c b : Bool) → b ≡ true → (not c || b) ≡ true
+    by true b f = f
+    by false b f = refl
+
 -- ---- what is owed to the client
 
 -- nothing is owed for publishes where the row may go and none goes
@@ -589,15 +598,7 @@ module _ (publishes : PublishesAre) (offered : OfferedAre) (returns : ReturnsAre
       memory = memory_is (known h p) ∙ t.memory
 
       doing : (not (is_closing (before h).conn) || (before h).by_peer) ≡ true
-      doing = by t.connection
-        where
-          either : (c b : Bool) → b ≡ true → (not c || b) ≡ true
-          either true b f = f
-          either false b f = refl
-
-          by : (is_closing (connection h) ≡ false) ⊎ (ended_by_container h ≡ true) → (not (is_closing (before h).conn) || (before h).by_peer) ≡ true
-          by (inl f) = ap (λ (b : Bool). not b || (before h).by_peer) (ap is_closing (conn_is (known h p)) ∙ f)
-          by (inr f) = either (is_closing (before h).conn) (before h).by_peer (ended_peer h p f)
+      doing = still_tells h p t.connection
 
       may : (may_answer (before h) || (before h).by_peer) ≡ true
       may = ap (λ (b : Bool). not (b || is_closing (before h).conn) || (before h).by_peer) memory ∙ doing

@@ -419,10 +419,19 @@ pub fn links_are_supplied()
 /// gateway's channel.close or the client's, where nothing is waited for and the client didn't close
 /// the connection. Of the connection the replies to what came went; but for its close and its
 /// close-ok while the upstream end is waited for. After the pair ran out of memory the last units
-/// went.
+/// went. While the pair has memory, and the connection isn't closing or its container closed it, no
+/// return that is begun has a frame left, on any channel.
 pub fn clients_get_what_is_due()
     ensures { (h : List Step) → ArePicks h → EndsClients h }
-{}
+{
+    publishes_lawfully();
+    returns_lawfully();
+    deliveries_lawfully();
+    delivers_lawfully();
+    numbers_lawfully();
+    calls_lawfully();
+    ids_lawfully();
+}
 
 /// What was sent to a client, without heartbeats, and what is due to it are the replies to its
 /// units and to what happened upstream, in their order: to the protocol header connection.start, to
