@@ -85,6 +85,8 @@ FLOW_OK = method(20, 21, b"\1", 1)
 SELECT = method(85, 10, b"\1", 1)
 WAITING_OPEN = method(20, 10, short(b""), 2)
 WAITING_BODY = struct.pack(">BHI", 3, 2, 0) + b"\xce"
+HIGH_HEARTBEAT = struct.pack(">BHI", 8, 300, 0) + b"\xce"
+HIGH_SELECT = method(85, 10, b"\1", 301)
 
 
 def frame10(kind, body):
@@ -538,17 +540,19 @@ def scheduled_seconds(pid):
         return int(file.read().split()[0]) / 1e9
 
 
-def one_read(program, container, data):
-    """The processor time until the answer to the channel.flow at the end of these bytes, which the gateway gets in one read."""
+def one_read(program, container, data, opens=False):
+    """The processor time until the answer to the channel.flow in these bytes, which the gateway gets in one read. Channel 1 is open before, or they open it."""
+    answer = CHANNEL_OPEN_OK + FLOW_OK if opens else FLOW_OK
     with Gateway(program, container=container) as gateway:
         pid = gateway.process.pid
         stream = gateway.opened()
         if stream is None:
             raise SystemExit("no connection was opened")
         stream.settimeout(60)
-        stream.sendall(CHANNEL_OPEN)
-        if receive(stream, len(CHANNEL_OPEN_OK)) != CHANNEL_OPEN_OK:
-            raise SystemExit("no channel was opened")
+        if not opens:
+            stream.sendall(CHANNEL_OPEN)
+            if receive(stream, len(CHANNEL_OPEN_OK)) != CHANNEL_OPEN_OK:
+                raise SystemExit("no channel was opened")
         stream.sendall(WAITING_OPEN)
         time.sleep(0.1)
         os.kill(pid, signal.SIGSTOP)
@@ -556,10 +560,10 @@ def one_read(program, container, data):
         time.sleep(0.1)
         begun = scheduled_seconds(pid)
         os.kill(pid, signal.SIGCONT)
-        got = receive(stream, len(FLOW_OK))
+        got = receive(stream, len(answer))
         took = scheduled_seconds(pid) - begun
         stream.close()
-        return took if got == FLOW_OK else None
+        return took if got == answer else None
 
 
 def waits(program):
@@ -572,6 +576,14 @@ def waits(program):
                 return
             median = sorted(took)[2]
             print(f"{passing:,} frames behind {count:,} that wait: {median * 1e3:.2f} ms, {median / passing * 1e6:.2f} us a frame")
+        held = WAITING_BODY + HIGH_HEARTBEAT + WAITING_BODY * 3_999 + CHANNEL_OPEN + SELECT * 2_000 + FLOW + HEARTBEAT
+        for what, data in (("a heartbeat on channel 300", held), ("that and a frame on 301", held + HIGH_SELECT)):
+            took = [one_read(program, container, data, opens=True) for _ in range(5)]
+            if None in took:
+                print(f"2,000 frames behind 4,000 that wait, with {what}: no answer")
+                return
+            median = sorted(took)[2]
+            print(f"2,000 frames behind 4,000 that wait, with {what}: {median * 1e3:.2f} ms, {median / 2_000 * 1e6:.2f} us a frame")
 
 
 def unread_output(program, clients=6000):
