@@ -72,14 +72,32 @@ fn put_fault(out: &mut String, found: At<HeaderFault>) -> Result<(), Memory> {
     Ok(())
 }
 
+/// A content header that was read of bytes.
+fn notation_of(alloc: Global, header: &Header91, bytes: &[u8]) -> Result<String, Memory>
+    requires { CanPut header.now }
+{
+    let mut out = String::new(alloc);
+    put_notation(alloc, &mut out, header, bytes)?;
+    Ok(out)
+}
+
+/// A fault and its place, as a text of its own.
+fn fault_of(alloc: Global, found: At<HeaderFault>) -> Result<String, Memory> {
+    let mut out = String::new(alloc);
+    put_fault(&mut out, found)?;
+    Ok(out)
+}
+
 /// The content header that fills bytes, with what is written of it.
 fn read_text(alloc: Global, bytes: &[u8]) -> Result<String, Memory> {
-    let mut out = String::new(alloc);
     match read_header(alloc, bytes)? {
-        Ok(header) => put_notation(alloc, &mut out, &header, bytes)?,
-        Err(found) => put_fault(&mut out, found)?,
+        Ok(header) => {
+            let text = notation_of(alloc, &header, bytes);
+            drop(header);
+            text
+        }
+        Err(found) => fault_of(alloc, found),
     }
-    Ok(out)
 }
 
 /// The content header that fills bytes, which are none with one more byte.
@@ -118,42 +136,76 @@ fn put_step(out: &mut String, read: &Result<Step, ContentFault>) -> Result<(), M
     Ok(())
 }
 
-/// Gives a frame to a content; false where the words are no frame.
+/// What a frame of a content came to, unless memory ran out.
+fn put_given(
+    out: &mut String,
+    given: Result<Result<Step, ContentFault>, Memory>,
+) -> Result<(), Memory> {
+    let read = given?;
+    let put = put_step(out, &read);
+    drop(read);
+    put
+}
+
+/// Gives a frame to a content; false where there is no such kind of frame.
 fn put_frame(
+    alloc: Global,
+    out: &mut String,
+    assembly: &mut Assembly,
+    kind: &str,
+    bytes: &[u8],
+) -> Result<bool, Memory> {
+    if !assembly.is_open() {
+        out.push_str("no content")?;
+        return Ok(true);
+    }
+    match kind {
+        "header" => put_given(out, assembly.header(alloc, bytes))?,
+        "body" => put_given(out, assembly.body(bytes))?,
+        _ => return Ok(false),
+    }
+    Ok(true)
+}
+
+/// The same by its words; false where they are no frame.
+fn put_told(
     alloc: Global,
     out: &mut String,
     names: &Names,
     assembly: &mut Assembly,
     words: &str,
 ) -> Result<bool, Memory> {
-    let (verb, rest) = words.split_once(' ').unwrap_or((words, ""));
-    let Some(bytes) = names.joined(alloc, rest)? else {
-        return Ok(false);
-    };
-    if !assembly.is_open() {
-        out.push_str("no content")?;
-        return Ok(true);
+    let (kind, rest) = words.split_once(' ').unwrap_or((words, ""));
+    match names.joined(alloc, rest)? {
+        Some(bytes) => put_frame(alloc, out, assembly, kind, bytes.as_slice()),
+        None => Ok(false),
     }
-    let read = match verb {
-        "header" => assembly.header(alloc, bytes.as_slice())?,
-        "body" => assembly.body(bytes.as_slice())?,
-        _ => return Ok(false),
-    };
-    put_step(out, &read)?;
-    Ok(true)
 }
 
-/// The frames of a content, one after another; `None` where the words are none.
-pub fn frames_text(alloc: Global, names: &Names, words: &str) -> Result<Option<String>, Memory> {
-    let mut assembly = Assembly::begin();
-    let mut out = String::new(alloc);
+/// Gives frames to a content, one after another; false where the words are none.
+fn put_frames(
+    alloc: Global,
+    out: &mut String,
+    names: &Names,
+    assembly: &mut Assembly,
+    words: &str,
+) -> Result<bool, Memory> {
     for frame in words.split(" / ") {
         if !out.is_empty() {
             out.push_str(", ")?;
         }
-        if !put_frame(alloc, &mut out, names, &mut assembly, frame)? {
-            return Ok(None);
+        if !put_told(alloc, out, names, assembly, frame)? {
+            return Ok(false);
         }
     }
-    Ok(Some(out))
+    Ok(true)
+}
+
+/// The frames of a content; `None` where the words are none.
+pub fn frames_text(alloc: Global, names: &Names, words: &str) -> Result<Option<String>, Memory> {
+    let mut out = String::new(alloc);
+    let mut assembly = Assembly::begin();
+    let put = put_frames(alloc, &mut out, names, &mut assembly, words);
+    drop(assembly);
+    Ok(if put? { Some(out) } else { None })
 }

@@ -42,16 +42,25 @@ fn written_of(alloc: Global, frame: &Frame91) -> Result<ByteText, Memory> {
     ByteText::copy_of(alloc, part(written.as_slice(), 6, size))
 }
 
+/// A frame of the first bytes, so many of them, and what is written of it.
+fn put_whole(
+    alloc: Global,
+    out: &mut String,
+    frame: &Frame91,
+    size: usize,
+    bytes: &[u8],
+) -> Result<(), Memory> {
+    put_notation(out, frame)?;
+    write!(out, " | {size}")?;
+    let written = written_of(alloc, frame)?;
+    put_written(out, written.as_slice(), part(bytes, 0, size))
+}
+
 /// The first frame of bytes.
 fn scan_text(alloc: Global, limit: u32, bytes: &[u8]) -> Result<String, Memory> {
     let mut out = String::new(alloc);
     match scan_frame(alloc, bytes, limit.max(4096))? {
-        Scan::Whole(frame, size) => {
-            put_notation(&mut out, &frame)?;
-            write!(out, " | {size}")?;
-            let written = written_of(alloc, &frame)?;
-            put_written(&mut out, written.as_slice(), part(bytes, 0, size))?;
-        }
+        Scan::Whole(frame, size) => put_whole(alloc, &mut out, &frame, size, bytes)?,
         Scan::More => out.push_str("More")?,
         Scan::Bad(found) => {
             let fault = found.fault;

@@ -37,15 +37,6 @@ impl Made {
         })
     }
 
-    /// Another connection to which the same came.
-    fn again(&self, alloc: Global, names: &Names) -> Result<Conn91, Memory> {
-        let mut conn = Conn91::new(self.vhost.copy(alloc)?);
-        for line in self.lines.as_str().lines() {
-            made_text(alloc, names, &mut conn, line)?;
-        }
-        Ok(conn)
-    }
-
     /// The next unit or other event came.
     fn add(&mut self, words: &str) -> Result<(), Memory> {
         self.lines.push_str(words)?;
@@ -207,7 +198,11 @@ fn want_text(alloc: Global, want: &Want91) -> Result<String, Memory> {
 /// Takes a unit, and answers what it wants.
 fn taken_text(alloc: Global, conn: &mut Conn91, unit: Unit91) -> Result<String, Memory> {
     match conn.take(alloc, unit) {
-        Ok(want) => want_text(alloc, &want),
+        Ok(want) => {
+            let text = want_text(alloc, &want);
+            drop(want);
+            text
+        }
         Err(memory) => Err(memory),
     }
 }
@@ -299,6 +294,34 @@ fn taken_step(
     step_text(alloc, names, &mut made.conn, words)
 }
 
+/// What came, and then a unit or another event, and the state after it; `None` where the words are
+/// neither.
+fn step_after(
+    alloc: Global,
+    names: &Names,
+    conn: &mut Conn91,
+    lines: &str,
+    words: &str,
+) -> Result<Option<String>, Memory> {
+    for line in lines.lines() {
+        made_text(alloc, names, conn, line)?;
+    }
+    step_text(alloc, names, conn, words)
+}
+
+/// The same at another connection to which the same came.
+fn tried_step(
+    alloc: Global,
+    names: &Names,
+    made: &Made,
+    words: &str,
+) -> Result<Option<String>, Memory> {
+    let mut conn = Conn91::new(made.vhost.copy(alloc)?);
+    let text = step_after(alloc, names, &mut conn, made.lines.as_str(), words);
+    drop(conn);
+    text
+}
+
 /// A case of the connection: `connection` begins a new one, `take` takes a unit or another event,
 /// and `try` does it to another connection to which the same came.
 pub fn connection_text(
@@ -311,10 +334,7 @@ pub fn connection_text(
     match verb {
         "connection" => begun_text(alloc, names, made, rest),
         "take" => taken_step(alloc, names, made, rest),
-        "try" => {
-            let mut conn = made.again(alloc, names)?;
-            step_text(alloc, names, &mut conn, rest)
-        }
+        "try" => tried_step(alloc, names, made, rest),
         _ => Ok(None),
     }
 }

@@ -50,7 +50,11 @@ fn fault_of(alloc: Global, found: At<MethodFault>) -> Result<String, Memory> {
 /// The method that fills bytes, with what is written of it.
 fn read_text(alloc: Global, bytes: &[u8]) -> Result<String, Memory> {
     match read_method(alloc, bytes)? {
-        Ok(method) => notation_of(alloc, &method, bytes),
+        Ok(method) => {
+            let text = notation_of(alloc, &method, bytes);
+            drop(method);
+            text
+        }
         Err(found) => fault_of(alloc, found),
     }
 }

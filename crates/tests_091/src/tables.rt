@@ -1,23 +1,38 @@
 //! Cases of field tables.
 
+ghost use Rattle.tables_091.specs.Writing.{HasSpelling};
+
 use crate::words::{put_other, put_squeezed, put_written};
 use std::alloc::Global;
-use tables_091::{put_table, read_table};
+use tables_091::{Table, put_table, read_table};
 use tests_support::{part, put_bytes};
 use wire_base::{ByteText, Memory};
+
+/// A table that was read of these bytes, and its end; what is written of it.
+fn put_found(
+    alloc: Global,
+    out: &mut String,
+    table: &Table,
+    end: usize,
+    bytes: &[u8],
+) -> Result<(), Memory>
+    requires { HasSpelling table.now }
+{
+    let notation = format!(in alloc; "{table:?}")?;
+    put_squeezed(out, notation.as_str())?;
+    write!(out, " | {end}")?;
+    let mut written = ByteText::empty(alloc);
+    put_table(&mut written, table)?;
+    put_written(out, written.as_slice(), bytes)
+}
 
 /// A table at an offset, with what is written of it. Places are told so much less.
 fn read_text(alloc: Global, bytes: &[u8], from: usize, less: usize) -> Result<String, Memory> {
     let mut out = String::new(alloc);
     match read_table(alloc, bytes, from)? {
         Ok((table, after)) => {
-            let place = after.saturating_sub(less);
-            let notation = format!(in alloc; "{table:?}")?;
-            put_squeezed(&mut out, notation.as_str())?;
-            write!(out, " | {place}")?;
-            let mut written = ByteText::empty(alloc);
-            put_table(&mut written, &table)?;
-            put_written(&mut out, written.as_slice(), part(bytes, from, after))?;
+            let end = after.saturating_sub(less);
+            put_found(alloc, &mut out, &table, end, part(bytes, from, after))?;
         }
         Err(found) => {
             let fault = found.fault;
