@@ -8,13 +8,21 @@ use gate_outside::{
     Accepted, Call, CallList, Drawn, End, Got, Linked, Log, LogEntry, MemorySink, MemorySource,
     Next, Piece, Ports, Put, Room, Script, ScriptPorts, Sink, Source, Sunk, write_all,
 };
-use std::alloc::{AllocError, Global};
+use std::alloc::Global;
+use std::fmt::Debug;
 use std::process::Abort;
 use std::test::Fail;
 use wire_base::{
     ByteText, ItemList, Memory, put_u8, put_u16, put_u32, put_u64, take_u8, take_u16, take_u32,
     take_u64,
 };
+
+/// A value is the one that it should be.
+fn same<T: Copy + PartialEq + Debug>(rt: &impl Abort, found: T, wanted: T)
+    ensures { T.eq found wanted ≡ true }
+{
+    assert_eq!(rt; found, wanted);
+}
 
 /// A script with so many pairs and nothing else.
 fn quiet(alloc: Global, pairs: u32) -> Script {
@@ -35,81 +43,126 @@ fn only(alloc: Global, number: u64) -> Result<CallList, Memory> {
     Ok(list)
 }
 
-/// Byte strings and lists, each call once.
-fn texts(rt: &(impl Abort + AllocGlobal)) -> Result<(), Fail> {
+/// Texts that grow, and a copy of one.
+fn texts_grow(rt: &(impl Abort + AllocGlobal)) -> Result<(), Fail> {
     let mut text = ByteText::empty(rt.alloc());
-    assert_eq!(rt; text.as_slice(), b"".as_slice());
+    same(rt, text.as_slice(), b"".as_slice());
     text.append(b"AM")?;
     text.append(b"QP")?;
     let before = text.copy(rt.alloc())?;
-    assert_eq!(rt; text.as_slice(), b"AMQP".as_slice());
-    let mut text = ByteText::copy_of(rt.alloc(), b"connection")?;
-    text.discard(7);
-    assert_eq!(rt; text.as_slice(), b"ion".as_slice());
-    assert_eq!(rt; before.as_slice(), b"AMQP".as_slice());
-    let mut list = ItemList::empty(rt.alloc());
-    list.push(7u64)?;
-    list.push(9)?;
-    assert_eq!(rt; list.len(), 2);
-    assert_eq!(rt; list.get(1), Some(&9));
-    assert_eq!(rt; list.get(2), None);
+    same(rt, text.as_slice(), b"AMQP".as_slice());
+    texts_are_cut(rt)?;
+    same(rt, before.as_slice(), b"AMQP".as_slice());
     Ok(())
 }
 
-#[test]
-fn numbers_go_high_byte_first(rt: HostRuntime) -> Result<(), Fail> {
-    texts(&rt)?;
-    let mut text = ByteText::empty(rt.alloc());
+/// A text whose front is dropped.
+fn texts_are_cut(rt: &(impl Abort + AllocGlobal)) -> Result<(), Fail> {
+    let mut text = ByteText::copy_of(rt.alloc(), b"connection")?;
+    text.discard(7);
+    same(rt, text.as_slice(), b"ion".as_slice());
+    Ok(())
+}
+
+/// A list of two numbers.
+fn lists_hold_items(rt: &(impl Abort + AllocGlobal)) -> Result<(), Fail> {
+    let mut list = ItemList::empty(rt.alloc());
+    list.push(7u64)?;
+    list.push(9)?;
+    same(rt, list.len(), 2);
+    same(rt, list.get(1), Some(&9));
+    same(rt, list.get(2), None);
+    Ok(())
+}
+
+/// A number of each size, one behind another.
+fn numbers(alloc: Global) -> Result<ByteText, Memory> {
+    let mut text = ByteText::empty(alloc);
     put_u8(&mut text, 0xF0)?;
     put_u16(&mut text, 0x0102)?;
     put_u32(&mut text, 0x0102_0304)?;
     put_u64(&mut text, 0x0102_0304_0506_0708)?;
+    Ok(text)
+}
+
+/// The same numbers, read again.
+fn numbers_are_read(rt: &impl Abort, bytes: &[u8]) {
+    same(rt, take_u8(bytes, 0), Some(0xF0));
+    same(rt, take_u16(bytes, 1), Some(0x0102));
+    same(rt, take_u32(bytes, 3), Some(0x0102_0304));
+    same(rt, take_u64(bytes, 7), Some(0x0102_0304_0506_0708));
+}
+
+/// A number of which a byte or more is missing.
+fn cut_numbers_are_none(rt: &impl Abort, bytes: &[u8]) {
+    same(rt, take_u8(bytes, 15), None);
+    same(rt, take_u16(bytes, 14), None);
+    same(rt, take_u32(bytes, 12), None);
+    same(rt, take_u64(bytes, 8), None);
+    same(rt, take_u64(bytes, 18_446_744_073_709_551_615), None);
+}
+
+#[test]
+fn numbers_go_high_byte_first(rt: HostRuntime) -> Result<(), Fail> {
+    texts_grow(&rt)?;
+    lists_hold_items(&rt)?;
+    let text = numbers(rt.alloc())?;
     let want = [0xF0, 1, 2, 1, 2, 3, 4, 1, 2, 3, 4, 5, 6, 7, 8];
-    let bytes = text.as_slice();
-    assert_eq!(rt; bytes, want.as_slice());
-    assert_eq!(rt; take_u8(bytes, 0), Some(0xF0));
-    assert_eq!(rt; take_u16(bytes, 1), Some(0x0102));
-    assert_eq!(rt; take_u32(bytes, 3), Some(0x0102_0304));
-    assert_eq!(rt; take_u64(bytes, 7), Some(0x0102_0304_0506_0708));
-    assert_eq!(rt; take_u8(bytes, 15), None);
-    assert_eq!(rt; take_u16(bytes, 14), None);
-    assert_eq!(rt; take_u32(bytes, 12), None);
-    assert_eq!(rt; take_u64(bytes, 8), None);
-    assert_eq!(rt; take_u64(bytes, 18_446_744_073_709_551_615), None);
+    same(&rt, text.as_slice(), want.as_slice());
+    numbers_are_read(&rt, text.as_slice());
+    cut_numbers_are_none(&rt, text.as_slice());
     Ok(())
+}
+
+/// A read into a buffer that holds these bytes, the answer, and what the buffer then holds.
+fn draws<S: Source>(
+    rt: &impl Abort,
+    source: &mut S,
+    before: &[u8; 3],
+    answer: Drawn,
+    after: &[u8; 3],
+) {
+    let mut buf = *before;
+    same(rt, source.read(&mut buf), answer);
+    same(rt, buf, *after);
 }
 
 /// A source gives `amqp` by at most three bytes at a read, and fails at its second call.
 fn source_is_read(rt: &(impl Abort + AllocGlobal)) -> Result<(), Fail> {
-    let bytes = ByteText::copy_of(rt.alloc(), b"amqp")?;
-    let mut source = MemorySource::new(bytes, only(rt.alloc(), 1)?);
-    let mut buf = [0u8; 3];
-    assert_eq!(rt; source.read(&mut buf), Drawn::Bytes(3));
-    assert_eq!(rt; buf, *b"amq");
-    assert_eq!(rt; source.read(&mut buf), Drawn::Failed);
-    assert_eq!(rt; buf, *b"amq");
-    assert_eq!(rt; source.read(&mut buf), Drawn::Bytes(1));
-    assert_eq!(rt; buf, *b"pmq");
-    assert_eq!(rt; source.read(&mut buf), Drawn::Ended);
-    assert_eq!(rt; buf, *b"pmq");
+    let fails = only(rt.alloc(), 1)?;
+    let mut source = MemorySource::new(ByteText::copy_of(rt.alloc(), b"amqp")?, fails);
+    draws(rt, &mut source, b"\0\0\0", Drawn::Bytes(3), b"amq");
+    draws(rt, &mut source, b"amq", Drawn::Failed, b"amq");
+    draws(rt, &mut source, b"amq", Drawn::Bytes(1), b"pmq");
+    draws(rt, &mut source, b"pmq", Drawn::Ended, b"pmq");
     Ok(())
+}
+
+/// Writes of which the second fails, and the same bytes once more.
+fn writes_again<K: Sink>(rt: &impl Abort, sink: &mut K) {
+    same(rt, sink.write(b"am"), Sunk::Took(2));
+    same(rt, sink.write(b"qp"), Sunk::Failed);
+    assert!(rt; write_all(sink, b"qp"));
+}
+
+/// A write of no bytes, and one for which there is no room.
+fn fills<K: Sink>(rt: &impl Abort, sink: &mut K) {
+    assert!(rt; write_all(sink, b""));
+    assert!(rt;
+        !write_all(sink, b"101"),
+        "there is room for two of the three"
+    );
 }
 
 #[test]
 fn streams_hold_their_bytes(rt: HostRuntime) -> Result<(), Fail> {
     source_is_read(&rt)?;
     let mut sink = MemorySink::new(rt.alloc(), 6, only(rt.alloc(), 1)?)?;
-    assert_eq!(rt; sink.held(), b"".as_slice());
-    assert_eq!(rt; sink.write(b"am"), Sunk::Took(2));
-    assert_eq!(rt; sink.write(b"qp"), Sunk::Failed);
-    assert!(rt; write_all(&mut sink, b"qp"));
-    assert_eq!(rt; sink.held(), b"amqp".as_slice());
-    assert!(rt; write_all(&mut sink, b""));
-    assert!(rt;
-        !write_all(&mut sink, b"101"),
-        "there is room for two of the three"
-    );
-    assert_eq!(rt; sink.held(), b"amqp10".as_slice());
+    same(&rt, sink.held(), b"".as_slice());
+    writes_again(&rt, &mut sink);
+    same(&rt, sink.held(), b"amqp".as_slice());
+    fills(&rt, &mut sink);
+    same(&rt, sink.held(), b"amqp10".as_slice());
     Ok(())
 }
 
@@ -140,8 +193,8 @@ fn two_ends(alloc: Global, fails: CallList) -> Result<Script, Memory> {
 }
 
 /// An entry of a log as a line.
-fn line_of(alloc: Global, entry: &LogEntry) -> Result<String, AllocError> {
-    match entry {
+fn line_of(alloc: Global, entry: &LogEntry) -> Result<String, Memory> {
+    let line = match entry {
         LogEntry::Accept { answer } => format!(in alloc; "accept: {answer:?}"),
         LogEntry::Connect { pair, answer } => format!(in alloc; "connect {pair}: {answer:?}"),
         LogEntry::Read {
@@ -166,24 +219,30 @@ fn line_of(alloc: Global, entry: &LogEntry) -> Result<String, AllocError> {
         LogEntry::Shut { pair, end } => format!(in alloc; "shut {pair} {end:?}"),
         LogEntry::Idle { answer } => format!(in alloc; "idle: {answer:?}"),
         LogEntry::Now { ms } => format!(in alloc; "now: {ms}"),
+    };
+    Ok(line?)
+}
+
+/// An entry of a log as a line; `None` where there is no such entry.
+fn line_at(alloc: Global, log: &Log, k: usize) -> Result<Option<String>, Memory> {
+    match log.copy(alloc, k)? {
+        Some(entry) => line_of(alloc, &entry).map(Some),
+        None => Ok(None),
     }
 }
 
 /// The entries of a log, as lines.
 fn log_says(rt: &(impl Abort + AllocGlobal), log: &Log, lines: &[&str]) -> Result<(), Fail> {
-    assert_eq!(rt; log.len(), lines.len());
+    same(rt, log.len(), lines.len());
     let mut k = 0usize;
     for want in lines {
-        match log.copy(rt.alloc(), k)? {
-            Some(entry) => {
-                let line = line_of(rt.alloc(), &entry)?;
-                assert_eq!(rt; line.as_str(), *want, "entry {k}");
-            }
+        match line_at(rt.alloc(), log, k)? {
+            Some(line) => assert_eq!(rt; line.as_str(), *want, "entry {k}"),
             None => panic!(rt; "no entry {k}"),
         }
         k = k.saturating_add(1);
     }
-    assert!(rt; log.copy(rt.alloc(), k)?.is_none());
+    assert!(rt; line_at(rt.alloc(), log, k)?.is_none());
     Ok(())
 }
 
@@ -193,10 +252,10 @@ fn opens<P: Ports>(rt: &impl Abort, ports: &mut P)
     requires ends { P.ends ports.old ≡ [] }
     ensures { P.ends ports.new ≡ (0, End.Client) ∷ (0, End.Up) ∷ [] }
 {
-    assert_eq!(rt; ports.now(), 0);
-    assert_eq!(rt; ports.accept(), Accepted::Pair(0));
-    assert_eq!(rt; ports.accept(), Accepted::NotYet);
-    assert_eq!(rt; ports.connect(0), Linked::Ok);
+    same(rt, ports.now(), 0);
+    same(rt, ports.accept(), Accepted::Pair(0));
+    same(rt, ports.accept(), Accepted::NotYet);
+    same(rt, ports.connect(0), Linked::Ok);
 }
 
 /// A read at an end of pair 0 into a buffer of two bytes, the answer, and what the buffer then
@@ -207,8 +266,8 @@ fn reads<P: Ports>(rt: &impl Abort, ports: &mut P, end: End, answer: Got, held: 
     ensures { P.ends ports.new ≡ (0, End.Client) ∷ (0, End.Up) ∷ [] }
 {
     let mut buf = *b"--";
-    assert_eq!(rt; ports.read(0, end, &mut buf), answer);
-    assert_eq!(rt; buf.as_slice(), held);
+    same(rt, ports.read(0, end, &mut buf), answer);
+    same(rt, buf.as_slice(), held);
 }
 
 /// A write of two bytes at an end of pair 0, and the answer.
@@ -217,15 +276,40 @@ fn writes<P: Ports>(rt: &impl Abort, ports: &mut P, end: End, answer: Put)
     requires ends { P.ends ports.old ≡ (0, End.Client) ∷ (0, End.Up) ∷ [] }
     ensures { P.ends ports.new ≡ (0, End.Client) ∷ (0, End.Up) ∷ [] }
 {
-    assert_eq!(rt; ports.write(0, end, b"xy"), answer);
+    same(rt, ports.write(0, end, b"xy"), answer);
 }
 
 /// The shut of an end, the idles, and the clock.
 fn closes<P: Ports>(rt: &impl Abort, ports: &mut P) {
     ports.shut(0, End::Up);
-    assert_eq!(rt; ports.idle(), Next::Go);
-    assert_eq!(rt; ports.idle(), Next::Stop);
-    assert_eq!(rt; ports.now(), 40);
+    same(rt, ports.idle(), Next::Go);
+    same(rt, ports.idle(), Next::Stop);
+    same(rt, ports.now(), 40);
+}
+
+/// What comes before anything is written.
+fn first_reads<P: Ports>(rt: &impl Abort, ports: &mut P)
+    requires { P.ends ports.old ≡ (0, End.Client) ∷ (0, End.Up) ∷ [] }
+    ensures { P.ends ports.new ≡ (0, End.Client) ∷ (0, End.Up) ∷ [] }
+{
+    reads(rt, ports, End::Client, Got::Failed, b"--");
+    reads(rt, ports, End::Client, Got::Bytes(2), b"ab");
+    reads(rt, ports, End::Client, Got::Bytes(1), b"c-");
+    reads(rt, ports, End::Client, Got::NotYet, b"--");
+    reads(rt, ports, End::Up, Got::Ended, b"--");
+    reads(rt, ports, End::Up, Got::NotYet, b"--");
+}
+
+/// Writes at each end, and what comes after the two at the client's.
+fn writes_and_reads<P: Ports>(rt: &impl Abort, ports: &mut P)
+    requires { P.ends ports.old ≡ (0, End.Client) ∷ (0, End.Up) ∷ [] }
+{
+    writes(rt, ports, End::Client, Put::Took(1));
+    writes(rt, ports, End::Client, Put::Took(2));
+    reads(rt, ports, End::Client, Got::Bytes(2), b"de");
+    reads(rt, ports, End::Client, Got::Ended, b"--");
+    writes(rt, ports, End::Up, Put::NotYet);
+    writes(rt, ports, End::Up, Put::Took(1));
 }
 
 #[test]
@@ -233,18 +317,8 @@ fn ports_play_a_script(rt: HostRuntime) -> Result<(), Fail> {
     let script = two_ends(rt.alloc(), only(rt.alloc(), 4)?)?;
     let mut ports = ScriptPorts::new(rt.alloc(), script, 100, 100)?;
     opens(&rt, &mut ports);
-    reads(&rt, &mut ports, End::Client, Got::Failed, b"--");
-    reads(&rt, &mut ports, End::Client, Got::Bytes(2), b"ab");
-    reads(&rt, &mut ports, End::Client, Got::Bytes(1), b"c-");
-    reads(&rt, &mut ports, End::Client, Got::NotYet, b"--");
-    reads(&rt, &mut ports, End::Up, Got::Ended, b"--");
-    reads(&rt, &mut ports, End::Up, Got::NotYet, b"--");
-    writes(&rt, &mut ports, End::Client, Put::Took(1));
-    writes(&rt, &mut ports, End::Client, Put::Took(2));
-    reads(&rt, &mut ports, End::Client, Got::Bytes(2), b"de");
-    reads(&rt, &mut ports, End::Client, Got::Ended, b"--");
-    writes(&rt, &mut ports, End::Up, Put::NotYet);
-    writes(&rt, &mut ports, End::Up, Put::Took(1));
+    first_reads(&rt, &mut ports);
+    writes_and_reads(&rt, &mut ports);
     closes(&rt, &mut ports);
     log_says(&rt, ports.log(), SCRIPT_LINES.as_slice())
 }
@@ -291,13 +365,32 @@ fn log_fills(rt: &(impl Abort + AllocGlobal)) -> Result<(), Fail> {
     log_says(rt, &log, &["write 7 Up [97, 98, 99]: NotYet", "now: 9"])
 }
 
+/// Ports at which nothing happens.
+fn stays_quiet<P: Ports>(rt: &impl Abort, ports: &mut P)
+    requires { P.pairs ports.old ≡ 0 }
+{
+    same(rt, ports.accept(), Accepted::NotYet);
+    same(rt, ports.idle(), Next::Stop);
+}
+
 /// Ports whose log has room for one entry.
 fn one_entry(rt: &(impl Abort + AllocGlobal)) -> Result<(), Fail> {
     let script = quiet(rt.alloc(), 0);
     let mut ports = ScriptPorts::new(rt.alloc(), script, 1, 100)?;
-    assert_eq!(rt; ports.accept(), Accepted::NotYet);
-    assert_eq!(rt; ports.idle(), Next::Stop);
+    stays_quiet(rt, &mut ports);
     log_says(rt, ports.log(), &["accept: NotYet"])
+}
+
+/// A client that comes, a read and a write at its end, and the clock.
+fn meets_client<P: Ports>(rt: &impl Abort, ports: &mut P)
+    requires pairs { P.pairs ports.old ≡ 0 }
+    requires ends { P.ends ports.old ≡ [] }
+{
+    let mut buf = [0u8; 2];
+    same(rt, ports.accept(), Accepted::Pair(0));
+    same(rt, ports.read(0, End::Client, &mut buf), Got::Bytes(2));
+    same(rt, ports.write(0, End::Client, b"xy"), Put::Took(1));
+    same(rt, ports.now(), 0);
 }
 
 #[test]
@@ -307,11 +400,7 @@ fn log_ends_where_room_does(rt: HostRuntime) -> Result<(), Fail> {
     // the log of ports is told up to the first call that finds no room
     let script = two_ends(rt.alloc(), ItemList::empty(rt.alloc()))?;
     let mut ports = ScriptPorts::new(rt.alloc(), script, 100, 3)?;
-    let mut buf = [0u8; 2];
-    assert_eq!(rt; ports.accept(), Accepted::Pair(0));
-    assert_eq!(rt; ports.read(0, End::Client, &mut buf), Got::Bytes(2));
-    assert_eq!(rt; ports.write(0, End::Client, b"xy"), Put::Took(1));
-    assert_eq!(rt; ports.now(), 0);
+    meets_client(&rt, &mut ports);
     log_says(
         &rt,
         ports.log(),
