@@ -1,7 +1,7 @@
 //! The lines of the input.
 
 use crate::notation::put_message;
-use content_091::read_header;
+use content_091::{Props, read_header};
 use property_map::{MapFault, Message091, redelivered, to_10, to_091};
 use sections_10::{Message10, can_be_written, read_message};
 use std::alloc::Global;
@@ -31,26 +31,35 @@ fn put_written(alloc: Global, out: &mut String, message: &Message10) -> Result<(
     put_bytes(out, text.as_slice())
 }
 
-/// The message that comes back of an image: `=` the same.
+/// A message of AMQP 0-9-1, or the fault.
+fn put_mapped(out: &mut String, mapped: &Result<Message091, MapFault>) -> Result<(), Memory> {
+    match mapped {
+        Ok(m) => put_message(out, m),
+        Err(fault) => put_fault(out, fault),
+    }
+}
+
+/// Whether a message came back with this body.
+fn has_body(mapped: &Result<Message091, MapFault>, body: &[u8]) -> bool {
+    match mapped {
+        Ok(m) => m.body.as_slice() == body,
+        Err(_) => false,
+    }
+}
+
+/// What came back of a message: `=` the same.
 fn put_back(
     alloc: Global,
     out: &mut String,
     m: &Message091,
-    image: Message10,
+    mapped: &Result<Message091, MapFault>,
 ) -> Result<(), Memory> {
     out.push_str(" | ")?;
     let mut there = String::new(alloc);
     put_message(&mut there, m)?;
     let mut back = String::new(alloc);
-    let mut same_body = false;
-    match to_091(alloc, image, b"queue", ROOM) {
-        Ok(again) => {
-            same_body = again.body.as_slice() == m.body.as_slice();
-            put_message(&mut back, &again)?;
-        }
-        Err(fault) => put_fault(&mut back, &fault)?,
-    }
-    if same_body && there.as_str() == back.as_str() {
+    put_mapped(&mut back, mapped)?;
+    if has_body(mapped, m.body.as_slice()) && there.as_str() == back.as_str() {
         out.push_str("=")?;
     } else {
         out.push_str(back.as_str())?;
@@ -58,17 +67,42 @@ fn put_back(
     Ok(())
 }
 
+/// An image in AMQP 1.0, and the message that comes back of it.
+fn put_image(
+    alloc: Global,
+    out: &mut String,
+    m: &Message091,
+    image: Message10,
+) -> Result<(), Memory> {
+    let written = put_written(alloc, out, &image);
+    let mapped = to_091(alloc, image, b"queue", ROOM);
+    let back = match written {
+        Ok(()) => put_back(alloc, out, m, &mapped),
+        Err(memory) => Err(memory),
+    };
+    drop(mapped);
+    back
+}
+
 /// A message of AMQP 0-9-1 in AMQP 1.0.
 fn image_10(alloc: Global, m: &Message091) -> Result<String, Memory> {
     let mut out = String::new(alloc);
     match to_10(alloc, m) {
-        Ok(image) => {
-            put_written(alloc, &mut out, &image)?;
-            put_back(alloc, &mut out, m, image)?;
-        }
+        Ok(image) => put_image(alloc, &mut out, m, image)?,
         Err(fault) => put_fault(&mut out, &fault)?,
     }
     Ok(out)
+}
+
+/// The properties of a content header; `None` where the words are none.
+fn props_of(alloc: Global, words: &str) -> Result<Option<Props>, Memory> {
+    let Some(payload) = bytes_of(alloc, words)? else {
+        return Ok(None);
+    };
+    match read_header(alloc, payload.as_slice())? {
+        Ok(header) => Ok(Some(header.props)),
+        Err(_) => Ok(None),
+    }
 }
 
 /// The image of a message of AMQP 0-9-1, which stands in four parts; `None` where they are none.
@@ -80,32 +114,37 @@ fn to_10_text(alloc: Global, words: &str) -> Result<Option<String>, Memory> {
         return Ok(None);
     };
     let (header, body) = rest.split_once(',').unwrap_or((rest, ""));
-    let (Some(exchange), Some(key)) = (bytes_of(alloc, exchange)?, bytes_of(alloc, key)?) else {
+    let Some(exchange) = bytes_of(alloc, exchange)? else {
         return Ok(None);
     };
-    let (Some(header), Some(body)) = (bytes_of(alloc, header)?, bytes_of(alloc, body)?) else {
+    let Some(key) = bytes_of(alloc, key)? else {
         return Ok(None);
     };
-    let Ok(header) = read_header(alloc, header.as_slice())? else {
+    let Some(body) = bytes_of(alloc, body)? else {
+        return Ok(None);
+    };
+    let Some(props) = props_of(alloc, header)? else {
         return Ok(None);
     };
     let m = Message091 {
         exchange,
         key,
-        props: header.props,
+        props,
         body,
     };
-    Ok(Some(image_10(alloc, &m)?))
+    let text = image_10(alloc, &m);
+    drop(m);
+    text.map(Some)
 }
 
 /// A message of AMQP 1.0 in AMQP 0-9-1.
 fn image_091(alloc: Global, message: Message10, queue: &[u8], room: u32) -> Result<String, Memory> {
     let mut out = String::new(alloc);
     let again = redelivered(&message);
-    match to_091(alloc, message, queue, room) {
-        Ok(m) => put_message(&mut out, &m)?,
-        Err(fault) => put_fault(&mut out, &fault)?,
-    }
+    let mapped = to_091(alloc, message, queue, room);
+    let put = put_mapped(&mut out, &mapped);
+    drop(mapped);
+    put?;
     if again {
         out.push_str(" | redelivered")?;
     }
