@@ -79,27 +79,39 @@ fn last_values(alloc: Global, stack: &mut Vec<Value10>, count: usize) -> Result<
     Ok(list)
 }
 
+/// Items in pairs, in their order; an odd last one is left out.
+fn in_pairs<T: Drop>(alloc: Global, items: Vec<T>) -> Result<Vec<(T, T)>, Memory> {
+    let mut pairs = Vec::new(alloc);
+    let mut first = None;
+    for item in items {
+        match first.take() {
+            None => first = Some(item),
+            Some(first) => pairs.push((first, item))?,
+        }
+    }
+    Ok(pairs)
+}
+
 /// The same in pairs.
 fn last_pairs(alloc: Global, stack: &mut Vec<Value10>, count: usize) -> Result<PairList, Memory> {
     let mut list = PairList::empty(alloc);
     let from = stack.len().saturating_sub(count.saturating_mul(2));
-    let mut key = None;
-    for value in stack.split_off(from)? {
-        match key.take() {
-            None => key = Some(value),
-            Some(first) => list.push((first, value))?,
-        }
+    for pair in in_pairs(alloc, stack.split_off(from)?)? {
+        list.push(pair)?;
     }
     Ok(list)
 }
 
 /// A value described by the one before it.
 fn described(alloc: Global, stack: &mut Vec<Value10>) -> Result<Option<Value10>, Memory> {
-    let (Some(value), Some(descriptor)) = (stack.pop(), stack.pop()) else {
+    let Some(value) = stack.pop() else {
+        return Ok(None);
+    };
+    let value = Inner::new(alloc, value)?;
+    let Some(descriptor) = stack.pop() else {
         return Ok(None);
     };
     let descriptor = Inner::new(alloc, descriptor)?;
-    let value = Inner::new(alloc, value)?;
     Ok(Some(Value10::Described(descriptor, value)))
 }
 
@@ -120,6 +132,19 @@ fn in_lists(
     Ok(Some(value))
 }
 
+/// Adds copies of a value, one fewer than this.
+fn push_copies(
+    alloc: Global,
+    stack: &mut Vec<Value10>,
+    value: &Value10,
+    count: usize,
+) -> Result<(), Memory> {
+    for _ in 1..count {
+        stack.push(value.copy(alloc)?)?;
+    }
+    Ok(())
+}
+
 /// Adds copies of the last value, so that it stands so many times.
 fn repeat(
     alloc: Global,
@@ -129,9 +154,7 @@ fn repeat(
     let Some(value) = stack.pop() else {
         return Ok(None);
     };
-    for _ in 1..count {
-        stack.push(value.copy(alloc)?)?;
-    }
+    push_copies(alloc, stack, &value, count)?;
     Ok(Some(value))
 }
 

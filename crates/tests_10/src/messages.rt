@@ -1,13 +1,13 @@
 //! Cases of messages.
 
-use crate::notation::put_notation;
+use crate::notation::{put_notation, put_spelling};
 use sections_10::{
-    Body10, Message10, MsgHeader, MsgProps, can_be_written, put_message, read_message,
+    Body10, Message10, MsgHeader, MsgProps, SectionFault, can_be_written, put_message, read_message,
 };
 use std::alloc::Global;
 use tests_support::{bytes_of, part, put_bytes};
 use types_10::Value10;
-use wire_base::{ByteText, Memory};
+use wire_base::{At, ByteText, Memory};
 
 /// A text that is there.
 fn put_text(out: &mut String, name: &str, text: &Option<ByteText>) -> Result<(), Memory> {
@@ -106,18 +106,31 @@ fn put_seen(alloc: Global, out: &mut String, message: &Message10) -> Result<(), 
     put_body(out, &message.body)
 }
 
+/// What a message says, as a text of its own.
+fn seen_text(alloc: Global, message: &Message10) -> Result<String, Memory> {
+    let mut out = String::new(alloc);
+    put_seen(alloc, &mut out, message)?;
+    Ok(out)
+}
+
+/// A fault and its place.
+fn fault_text(alloc: Global, found: At<SectionFault>) -> Result<String, Memory> {
+    let fault = found.fault;
+    let at = found.at;
+    let text = format!(in alloc; "{fault:?} {at}")?;
+    Ok(text)
+}
+
 /// The message that fills bytes, or a fault and its place.
 fn message_text(alloc: Global, bytes: &[u8]) -> Result<String, Memory> {
-    let mut out = String::new(alloc);
     match read_message(alloc, bytes)? {
-        Ok(message) => put_seen(alloc, &mut out, &message)?,
-        Err(found) => {
-            let fault = found.fault;
-            let at = found.at;
-            write!(out, "{fault:?} {at}")?;
+        Ok(message) => {
+            let text = seen_text(alloc, &message);
+            drop(message);
+            text
         }
+        Err(found) => fault_text(alloc, found),
     }
-    Ok(out)
 }
 
 /// The bytes that are written of a message; `None` where it can't be written.
@@ -131,27 +144,16 @@ fn spelling_of(alloc: Global, message: &Message10) -> Result<Option<ByteText>, M
     Ok(Some(text))
 }
 
-/// What is written of the message that fills bytes: `=` where it is these bytes, `-` where it can't
-/// be.
-fn put_spelling(out: &mut String, bytes: &[u8], spelling: Option<ByteText>) -> Result<(), Memory> {
-    match spelling {
-        None => out.push_str(" | -")?,
-        Some(text) if text.as_slice() == bytes => out.push_str(" | =")?,
-        Some(text) => {
-            out.push_str(" |")?;
-            put_bytes(out, text.as_slice())?;
-        }
-    }
-    Ok(())
-}
-
-/// The same; nothing where no message fills them.
+/// What is written of the message that fills bytes; nothing where no message fills them.
 fn put_written(alloc: Global, out: &mut String, bytes: &[u8]) -> Result<(), Memory> {
-    let Ok(message) = read_message(alloc, bytes)? else {
-        return Ok(());
-    };
-    let spelling = spelling_of(alloc, &message)?;
-    put_spelling(out, bytes, spelling)
+    match read_message(alloc, bytes)? {
+        Ok(message) => {
+            let spelling = spelling_of(alloc, &message);
+            drop(message);
+            put_spelling(out, bytes, &spelling?)
+        }
+        Err(_) => Ok(()),
+    }
 }
 
 /// An answer so many times.

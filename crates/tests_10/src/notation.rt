@@ -2,9 +2,9 @@
 //! `<descriptor> value`. An item that stands four times or more is told once, with its count.
 
 use std::alloc::Global;
-use tests_support::put_text;
+use tests_support::{put_bytes, put_text};
 use types_10::{Inner, PairList, Value10, ValueList};
-use wire_base::Memory;
+use wire_base::{ByteText, Memory};
 
 fn put_unsigned(out: &mut String, name: &str, n: u64) -> Result<(), Memory> {
     write!(out, "{name} {n}")?;
@@ -31,6 +31,63 @@ fn put_bits(out: &mut String, name: &str, bytes: &[u8]) -> Result<(), Memory> {
     Ok(())
 }
 
+/// What is written of what these bytes spell: `=` where it is the same bytes, `-` where it can't be
+/// written.
+pub fn put_spelling(
+    out: &mut String,
+    bytes: &[u8],
+    spelling: &Option<ByteText>,
+) -> Result<(), Memory> {
+    match spelling {
+        None => out.push_str(" | -")?,
+        Some(text) if text.as_slice() == bytes => out.push_str(" | =")?,
+        Some(text) => {
+            out.push_str(" |")?;
+            put_bytes(out, text.as_slice())?;
+        }
+    }
+    Ok(())
+}
+
+/// One word.
+fn put_word(out: &mut String, word: &str) -> Result<(), Memory> {
+    out.push_str(word)?;
+    Ok(())
+}
+
+fn put_char(out: &mut String, n: u32) -> Result<(), Memory> {
+    write!(out, "char {n:X}")?;
+    Ok(())
+}
+
+/// A value that holds no other; nothing of one that does.
+fn put_scalar(out: &mut String, value: &Value10) -> Result<(), Memory> {
+    match value {
+        Value10::Null => put_word(out, "null"),
+        Value10::Boolean(truth) => put_word(out, if *truth { "true" } else { "false" }),
+        Value10::Ubyte(n) => put_unsigned(out, "ubyte", u64::from(*n)),
+        Value10::Byte(n) => put_signed(out, "byte", i64::from(*n)),
+        Value10::Ushort(n) => put_unsigned(out, "ushort", u64::from(*n)),
+        Value10::Short(n) => put_signed(out, "short", i64::from(*n)),
+        Value10::Uint(n) => put_unsigned(out, "uint", u64::from(*n)),
+        Value10::Int(n) => put_signed(out, "int", i64::from(*n)),
+        Value10::Ulong(n) => put_unsigned(out, "ulong", *n),
+        Value10::Long(n) => put_signed(out, "long", *n),
+        Value10::Float(bits) => put_bits(out, "float", &bits.to_be_bytes()),
+        Value10::Double(bits) => put_bits(out, "double", &bits.to_be_bytes()),
+        Value10::Decimal32(bits) => put_bits(out, "decimal32", &bits.to_be_bytes()),
+        Value10::Decimal64(bits) => put_bits(out, "decimal64", &bits.to_be_bytes()),
+        Value10::Decimal128(bytes) => put_bits(out, "decimal128", bytes),
+        Value10::Char(n) => put_char(out, *n),
+        Value10::Timestamp(n) => put_signed(out, "timestamp", *n),
+        Value10::Uuid(bytes) => put_bits(out, "uuid", bytes),
+        Value10::Binary(bytes) => put_named(out, "binary", bytes.as_slice()),
+        Value10::String(bytes) => put_named(out, "string", bytes.as_slice()),
+        Value10::Symbol(bytes) => put_named(out, "symbol", bytes.as_slice()),
+        Value10::List(_) | Value10::Map(_) | Value10::Array(_) | Value10::Described(_, _) => Ok(()),
+    }
+}
+
 /// A value. Where it is deeper than so many levels, the rest is left out.
 #[cycle(shown)]
 pub fn put_notation(
@@ -40,27 +97,6 @@ pub fn put_notation(
     value: &Value10,
 ) -> Result<(), Memory> {
     match value {
-        Value10::Null => out.push_str("null")?,
-        Value10::Boolean(truth) => out.push_str(if *truth { "true" } else { "false" })?,
-        Value10::Ubyte(n) => put_unsigned(out, "ubyte", u64::from(*n))?,
-        Value10::Byte(n) => put_signed(out, "byte", i64::from(*n))?,
-        Value10::Ushort(n) => put_unsigned(out, "ushort", u64::from(*n))?,
-        Value10::Short(n) => put_signed(out, "short", i64::from(*n))?,
-        Value10::Uint(n) => put_unsigned(out, "uint", u64::from(*n))?,
-        Value10::Int(n) => put_signed(out, "int", i64::from(*n))?,
-        Value10::Ulong(n) => put_unsigned(out, "ulong", *n)?,
-        Value10::Long(n) => put_signed(out, "long", *n)?,
-        Value10::Float(bits) => put_bits(out, "float", &bits.to_be_bytes())?,
-        Value10::Double(bits) => put_bits(out, "double", &bits.to_be_bytes())?,
-        Value10::Decimal32(bits) => put_bits(out, "decimal32", &bits.to_be_bytes())?,
-        Value10::Decimal64(bits) => put_bits(out, "decimal64", &bits.to_be_bytes())?,
-        Value10::Decimal128(bytes) => put_bits(out, "decimal128", bytes)?,
-        Value10::Char(n) => write!(out, "char {n:X}")?,
-        Value10::Timestamp(n) => put_signed(out, "timestamp", *n)?,
-        Value10::Uuid(bytes) => put_bits(out, "uuid", bytes)?,
-        Value10::Binary(bytes) => put_named(out, "binary", bytes.as_slice())?,
-        Value10::String(bytes) => put_named(out, "string", bytes.as_slice())?,
-        Value10::Symbol(bytes) => put_named(out, "symbol", bytes.as_slice())?,
         Value10::List(list) => {
             out.push_str("[")?;
             put_items(alloc, out, levels, list)?;
@@ -82,6 +118,7 @@ pub fn put_notation(
             out.push_str("> ")?;
             put_inner(alloc, out, levels, value)?;
         }
+        _ => put_scalar(out, value)?,
     }
     Ok(())
 }

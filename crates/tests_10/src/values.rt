@@ -1,7 +1,7 @@
 //! Cases of values: what is printed of a line.
 
 use crate::building::built;
-use crate::notation::put_notation;
+use crate::notation::{put_notation, put_spelling};
 use std::alloc::Global;
 use tests_support::{bytes_of, part, put_bytes};
 use types_10::{TypeFault, Value10, has_spelling, put_value, read_value, skip_value};
@@ -19,6 +19,13 @@ fn put_skipped(
     Ok(())
 }
 
+/// A value, and the offset after it.
+fn put_found(alloc: Global, out: &mut String, value: &Value10, after: usize) -> Result<(), Memory> {
+    put_notation(alloc, out, 17, value)?;
+    write!(out, " | {after}")?;
+    Ok(())
+}
+
 /// The value at an offset and the offset after it, or the fault and its place. Places are told so
 /// much less. It is also told where the value is skipped otherwise.
 fn read_text(alloc: Global, bytes: &[u8], from: usize, less: usize) -> Result<String, Memory> {
@@ -26,9 +33,9 @@ fn read_text(alloc: Global, bytes: &[u8], from: usize, less: usize) -> Result<St
     let skipped = skip_value(bytes, from);
     match read_value(alloc, bytes, from)? {
         Ok((value, after)) => {
-            put_notation(alloc, &mut out, 17, &value)?;
-            let told = after.saturating_sub(less);
-            write!(out, " | {told}")?;
+            let put = put_found(alloc, &mut out, &value, after.saturating_sub(less));
+            drop(value);
+            put?;
             put_skipped(&mut out, skipped, Ok(after))?;
         }
         Err(found) => {
@@ -44,7 +51,10 @@ fn read_text(alloc: Global, bytes: &[u8], from: usize, less: usize) -> Result<St
 /// The offset after the value at an offset; none where there is none.
 fn end_of(alloc: Global, bytes: &[u8], from: usize) -> Result<Option<usize>, Memory> {
     match read_value(alloc, bytes, from)? {
-        Ok((_, after)) => Ok(Some(after)),
+        Ok((value, after)) => {
+            drop(value);
+            Ok(Some(after))
+        }
         Err(_) => Ok(None),
     }
 }
@@ -63,7 +73,11 @@ fn spelling_of(alloc: Global, value: &Value10) -> Result<Option<ByteText>, Memor
 /// What is written of the value at an offset.
 fn written_at(alloc: Global, bytes: &[u8], from: usize) -> Result<Option<ByteText>, Memory> {
     match read_value(alloc, bytes, from)? {
-        Ok((value, _)) => spelling_of(alloc, &value),
+        Ok((value, _)) => {
+            let spelling = spelling_of(alloc, &value);
+            drop(value);
+            spelling
+        }
         Err(_) => Ok(None),
     }
 }
@@ -77,15 +91,8 @@ fn put_written(
     from: usize,
     to: usize,
 ) -> Result<(), Memory> {
-    match written_at(alloc, bytes, from)? {
-        None => out.push_str(" | -")?,
-        Some(text) if text.as_slice() == part(bytes, from, to) => out.push_str(" | =")?,
-        Some(text) => {
-            out.push_str(" |")?;
-            put_bytes(out, text.as_slice())?;
-        }
-    }
-    Ok(())
+    let written = written_at(alloc, bytes, from)?;
+    put_spelling(out, part(bytes, from, to), &written)
 }
 
 /// Bytes with three before them, and two behind them if so asked.
@@ -244,19 +251,27 @@ fn put_further(alloc: Global, out: &mut String, verb: &str, rest: &str) -> Resul
     }
 }
 
-/// A value that is built from words, and what is written of it; whether the words are right.
-fn put_built(alloc: Global, out: &mut String, words: &str) -> Result<bool, Memory> {
-    let Some(value) = built(alloc, words)? else {
-        return Ok(false);
-    };
-    put_notation(alloc, out, 18, &value)?;
-    match spelling_of(alloc, &value)? {
+/// A value, and what is written of it.
+fn put_spelled(alloc: Global, out: &mut String, value: &Value10) -> Result<(), Memory> {
+    put_notation(alloc, out, 18, value)?;
+    match spelling_of(alloc, value)? {
         None => out.push_str(" | -")?,
         Some(text) => {
             out.push_str(" |")?;
             put_bytes(out, text.as_slice())?;
         }
     }
+    Ok(())
+}
+
+/// A value that is built from words, and what is written of it; whether the words are right.
+fn put_built(alloc: Global, out: &mut String, words: &str) -> Result<bool, Memory> {
+    let Some(value) = built(alloc, words)? else {
+        return Ok(false);
+    };
+    let put = put_spelled(alloc, out, &value);
+    drop(value);
+    put?;
     Ok(true)
 }
 
