@@ -3,7 +3,7 @@
 use crate::checks::{put_unrecorded, put_unreported};
 use crate::runs::{play, play_as_told};
 use crate::scenario::{Scenario, Sent};
-use crate::telling::{listing, put_counts};
+use crate::telling::{put_counts, put_listing};
 use gate_outside::{End, Room};
 use std::alloc::Global;
 use tests_support::{Cases, bytes_of};
@@ -128,12 +128,24 @@ fn take_line(alloc: Global, scenario: &mut Scenario, line: &str) -> Result<bool,
     }
 }
 
+/// A play whose sinks fail as the scenario says.
+fn put_list(alloc: Global, scenario: &Scenario, out: &mut String) -> Result<(), Memory> {
+    let run = play_as_told(alloc, scenario)?;
+    put_listing(&run, out)
+}
+
+/// The counts of a play in which neither sink fails.
+fn put_counted(alloc: Global, scenario: &Scenario, out: &mut String) -> Result<(), Memory> {
+    let run = play(alloc, scenario)?;
+    put_counts(&run, out)
+}
+
 /// A line that plays the scenario; `None` where it is none.
 fn play_line(alloc: Global, scenario: &Scenario, line: &str) -> Result<Option<String>, Memory> {
     let mut out = String::new(alloc);
     match line {
-        "list" => return Ok(Some(listing(alloc, &play_as_told(alloc, scenario)?)?)),
-        "counts" => put_counts(&play(alloc, scenario)?, &mut out)?,
+        "list" => put_list(alloc, scenario, &mut out)?,
+        "counts" => put_counted(alloc, scenario, &mut out)?,
         "unrecorded" => put_unrecorded(alloc, scenario, &mut out)?,
         "unreported" => put_unreported(alloc, scenario, &mut out)?,
         _ => return Ok(None),

@@ -75,22 +75,41 @@ fn recorder_is_right(
     )
 }
 
-/// The recorder fails at each call in turn: how many calls there are, and those after which a rule
-/// was broken.
-pub fn put_unrecorded(alloc: Global, scenario: &Scenario, out: &mut String) -> Result<(), Memory> {
-    let plain = play(alloc, scenario)?;
+/// Plays once more, with a recorder that fails at this call; whether each rule holds.
+fn is_right_unrecorded(
+    alloc: Global,
+    scenario: &Scenario,
+    plain: &Run,
+    at: usize,
+) -> Result<bool, Memory> {
+    let record = plain.record_of(alloc, at)?;
+    let run = play_with(alloc, scenario, None, record.as_slice().len())?;
+    recorder_is_right(alloc, &run, plain, at, record.as_slice())
+}
+
+/// The same for each call of a play: those after which a rule was broken.
+fn put_broken_calls(
+    alloc: Global,
+    scenario: &Scenario,
+    plain: &Run,
+    out: &mut String,
+) -> Result<(), Memory> {
     let count = plain.calls.len();
     write!(out, "unrecorded: {count} calls")?;
     for k in 0..count {
-        let record = plain.record_of(alloc, k)?;
-        let room = record.as_slice().len();
-        let run = play_with(alloc, scenario, None, room)?;
-        if !recorder_is_right(alloc, &run, &plain, k, record.as_slice())? {
+        if !is_right_unrecorded(alloc, scenario, plain, k)? {
             write!(out, ", not call {k}")?;
         }
     }
     out.push_str("\n")?;
     Ok(())
+}
+
+/// The recorder fails at each call in turn: how many calls there are, and those after which a rule
+/// was broken.
+pub fn put_unrecorded(alloc: Global, scenario: &Scenario, out: &mut String) -> Result<(), Memory> {
+    let plain = play(alloc, scenario)?;
+    put_broken_calls(alloc, scenario, &plain, out)
 }
 
 /// The calls before the last of those that only shut.
@@ -117,21 +136,64 @@ fn report_is_right(alloc: Global, run: &Run, plain: &Run) -> Result<bool, Memory
     Ok(is_front && ended && open.is_empty() && begins_as(alloc, run, plain, count)?)
 }
 
-/// The report fails at each of its writes: how many it has, and those after which a rule was
-/// broken.
-pub fn put_unreported(alloc: Global, scenario: &Scenario, out: &mut String) -> Result<(), Memory> {
-    let plain = play(alloc, scenario)?;
+/// A play whose report was to fail at a write.
+#[derive(Clone, Copy)]
+enum Unreported {
+    /// There was no such write.
+    Whole,
+    Right,
+    /// A rule was broken.
+    Broken,
+}
+
+/// What such a play came to.
+fn judged(alloc: Global, run: &Run, plain: &Run) -> Result<Unreported, Memory> {
+    if run.served == plain.served && run.report.as_slice() == plain.report.as_slice() {
+        return Ok(Unreported::Whole);
+    }
+    if report_is_right(alloc, run, plain)? {
+        Ok(Unreported::Right)
+    } else {
+        Ok(Unreported::Broken)
+    }
+}
+
+/// Plays once more, with a report that fails at this write, and judges that.
+fn play_unreported(
+    alloc: Global,
+    scenario: &Scenario,
+    plain: &Run,
+    at: usize,
+) -> Result<Unreported, Memory> {
+    let run = play_with(alloc, scenario, Some(at as u64), SINK_ROOM)?;
+    judged(alloc, &run, plain)
+}
+
+/// The same for each write of a play: how many it has, and those after which a rule was broken.
+fn put_broken_writes(
+    alloc: Global,
+    scenario: &Scenario,
+    plain: &Run,
+    out: &mut String,
+) -> Result<(), Memory> {
     out.push_str("unreported:")?;
     for k in 0..plain.report.as_slice().len() {
-        let run = play_with(alloc, scenario, Some(k as u64), SINK_ROOM)?;
-        if run.served == plain.served && run.report.as_slice() == plain.report.as_slice() {
-            write!(out, " {k} writes\n")?;
-            return Ok(());
-        }
-        if !report_is_right(alloc, &run, &plain)? {
-            write!(out, " not write {k},")?;
+        match play_unreported(alloc, scenario, plain, k)? {
+            Unreported::Whole => {
+                write!(out, " {k} writes\n")?;
+                return Ok(());
+            }
+            Unreported::Right => {}
+            Unreported::Broken => write!(out, " not write {k},")?,
         }
     }
     out.push_str(" a write of each byte\n")?;
     Ok(())
+}
+
+/// The report fails at each of its writes: how many it has, and those after which a rule was
+/// broken.
+pub fn put_unreported(alloc: Global, scenario: &Scenario, out: &mut String) -> Result<(), Memory> {
+    let plain = play(alloc, scenario)?;
+    put_broken_writes(alloc, scenario, &plain, out)
 }

@@ -132,13 +132,19 @@ pub fn play(alloc: Global, scenario: &Scenario) -> Result<Run, Memory> {
     play_with(alloc, scenario, None, SINK_ROOM)
 }
 
+/// The room that a recorder needs for the first calls of a play.
+fn room_of(alloc: Global, scenario: &Scenario, kept: usize) -> Result<usize, Memory> {
+    let run = play(alloc, scenario)?;
+    match run.record_of(alloc, kept) {
+        Ok(record) => Ok(record.as_slice().len()),
+        Err(memory) => Err(memory),
+    }
+}
+
 /// A play in which the sinks fail as the scenario says.
 pub fn play_as_told(alloc: Global, scenario: &Scenario) -> Result<Run, Memory> {
     let room = match scenario.numbers.kept {
-        Some(kept) => play(alloc, scenario)?
-            .record_of(alloc, kept)?
-            .as_slice()
-            .len(),
+        Some(kept) => room_of(alloc, scenario, kept)?,
         None => SINK_ROOM,
     };
     play_with(alloc, scenario, scenario.numbers.out, room)
@@ -186,7 +192,10 @@ pub fn shut_by(entry: &LogEntry) -> Option<PairEnd> {
 fn place_behind(alloc: Global, record: &[u8], at: usize) -> Result<usize, Memory> {
     let size = record.len();
     match next_entry(alloc, size, part(record, at, size)) {
-        Ok((_, rest)) => Ok(size.saturating_sub(rest.len())),
+        Ok((entry, rest)) => {
+            drop(entry);
+            Ok(size.saturating_sub(rest.len()))
+        }
         Err(Stop::Fault(_)) => Ok(at),
         Err(Stop::Memory) => Err(Memory),
     }

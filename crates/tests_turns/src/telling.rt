@@ -2,7 +2,6 @@
 
 use crate::runs::Run;
 use gate_outside::{Accepted, End, LogEntry, Put};
-use std::alloc::Global;
 use tests_support::put_text;
 use wire_base::Memory;
 
@@ -76,17 +75,15 @@ fn put_end(out: &mut String, run: &Run) -> Result<(), Memory> {
 }
 
 /// A play, a line for each turn, and how it ended.
-pub fn listing(alloc: Global, run: &Run) -> Result<String, Memory> {
-    let mut out = String::new(alloc);
+pub fn put_listing(run: &Run, out: &mut String) -> Result<(), Memory> {
     for k in 0..run.calls.len() {
         if let Some(entry) = run.calls.get(k) {
-            put_gap(&mut out, k, entry)?;
-            put_call(&mut out, entry)?;
+            put_gap(out, k, entry)?;
+            put_call(out, entry)?;
         }
     }
     out.push_str("\n")?;
-    put_end(&mut out, run)?;
-    Ok(out)
+    put_end(out, run)
 }
 
 /// What a run is counted by.
