@@ -29,6 +29,20 @@ fn put_again(alloc: Global, out: &mut String, bytes: &[u8], frame: &Frame10) -> 
     put_bytes(out, text.as_slice())
 }
 
+/// A frame, the offset behind it and what is written of it.
+fn put_whole(
+    alloc: Global,
+    out: &mut String,
+    bytes: &[u8],
+    frame: &Frame10,
+    after: usize,
+) -> Result<(), Memory> {
+    write!(out, "{:?} {} |", frame.kind, frame.channel)?;
+    put_bytes(out, frame.body.as_slice())?;
+    write!(out, " | {after}")?;
+    put_again(alloc, out, part(bytes, 0, after), frame)
+}
+
 /// The frame with which bytes begin, the offset behind it and what is written of it; or `more`, or
 /// the fault and its place.
 fn put_frame(alloc: Global, out: &mut String, limit: u32, bytes: &[u8]) -> Result<(), Memory>
@@ -37,12 +51,7 @@ fn put_frame(alloc: Global, out: &mut String, limit: u32, bytes: &[u8]) -> Resul
     match scan_frame10(alloc, bytes, limit)? {
         Scan::More => out.push_str("more")?,
         Scan::Bad(bad) => write!(out, "{:?} at {}", bad.fault, bad.at)?,
-        Scan::Whole(frame, after) => {
-            write!(out, "{:?} {} |", frame.kind, frame.channel)?;
-            put_bytes(out, frame.body.as_slice())?;
-            write!(out, " | {after}")?;
-            put_again(alloc, out, part(bytes, 0, after), &frame)?;
-        }
+        Scan::Whole(frame, after) => put_whole(alloc, out, bytes, &frame, after)?,
     }
     Ok(())
 }

@@ -22,17 +22,29 @@ fn put_written(alloc: Global, out: &mut String, bytes: &[u8], perf: &Perf) -> Re
     put_bytes(out, text.as_slice())
 }
 
+/// A performative, the offset behind it and what is written of it.
+fn put_found(
+    alloc: Global,
+    out: &mut String,
+    bytes: &[u8],
+    perf: &Perf,
+    after: usize,
+) -> Result<(), Memory> {
+    write!(out, "{perf:?} | {after}")?;
+    put_written(alloc, out, part(bytes, 0, after), perf)
+}
+
 /// The performative with which bytes begin, the offset behind it and what is written of it, or the
 /// fault.
 fn put_answer(alloc: Global, out: &mut String, bytes: &[u8]) -> Result<(), Memory> {
     match read_perf(alloc, bytes)? {
         Ok((perf, after)) => {
-            write!(out, "{perf:?} | {after}")?;
-            put_written(alloc, out, part(bytes, 0, after), &perf)?;
+            let put = put_found(alloc, out, bytes, &perf, after);
+            drop(perf);
+            put
         }
-        Err(fault) => write!(out, "{fault:?}")?,
+        Err(fault) => Ok(write!(out, "{fault:?}")?),
     }
-    Ok(())
 }
 
 /// Each shorter length: those that aren't cut off at their length are told.
