@@ -1,7 +1,11 @@
 //! What is printed of a line of the input.
 
+ghost use Rattle.std.specs.Prelude.{◌<◌, ◌^◌, length};
+ghost use Rattle.std.specs.List.{AllByRecursion};
+ghost use Rattle.gate_capture.specs.Spelling.{HasSpelling};
+
 use gate_capture::{CaptureFault, put_capture, read_capture};
-use gate_outside::{CallList, MemorySink};
+use gate_outside::{CallList, Entries, MemorySink};
 use gate_show::{Shown, show_capture};
 use std::alloc::Global;
 use tests_support::{Cases, bytes_of, part, put_bytes, put_text};
@@ -31,17 +35,29 @@ fn put_written(out: &mut String, written: &[u8], read: &[u8]) -> Result<(), Memo
     put_bytes(out, written)
 }
 
+/// The count of the entries, the words, and what is written of both.
+fn put_found(
+    alloc: Global,
+    out: &mut String,
+    words: &ByteText,
+    entries: &Entries,
+    bytes: &[u8],
+) -> Result<(), Memory>
+    requires words { length words.now < 2 ^ 32 }
+    requires entries { AllByRecursion HasSpelling entries.now }
+{
+    let count = entries.len();
+    write!(out, "{count} |")?;
+    put_text(out, words.as_slice())?;
+    let mut written = ByteText::empty(alloc);
+    put_capture(&mut written, words, entries)?;
+    put_written(out, written.as_slice(), bytes)
+}
+
 fn read_text(alloc: Global, bytes: &[u8]) -> Result<String, Memory> {
     let mut out = String::new(alloc);
     match read_capture(alloc, bytes)? {
-        Ok(capture) => {
-            let count = capture.entries.len();
-            write!(out, "{count} |")?;
-            put_text(&mut out, capture.words.as_slice())?;
-            let mut written = ByteText::empty(alloc);
-            put_capture(&mut written, &capture.words, &capture.entries)?;
-            put_written(&mut out, written.as_slice(), bytes)?;
-        }
+        Ok(capture) => put_found(alloc, &mut out, &capture.words, &capture.entries, bytes)?,
         Err(found) => put_fault(&mut out, found)?,
     }
     Ok(out)
@@ -73,7 +89,12 @@ fn cuts_text(alloc: Global, bytes: &[u8]) -> Result<String, Memory> {
 
 fn list_text(alloc: Global, bytes: &[u8]) -> Result<String, Memory> {
     let mut sink = MemorySink::new(alloc, LISTING, CallList::empty(alloc))?;
-    let shown = show_capture(alloc, bytes, &mut sink)?;
+    listed_text(alloc, bytes, &mut sink)
+}
+
+/// What a sink then holds, and how the listing ends.
+fn listed_text(alloc: Global, bytes: &[u8], sink: &mut MemorySink) -> Result<String, Memory> {
+    let shown = show_capture(alloc, bytes, sink)?;
     let mut out = String::new(alloc);
     match std::str::from_utf8(sink.held()) {
         Ok(text) => out.push_str(text)?,
