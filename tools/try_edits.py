@@ -2,12 +2,14 @@
 """Tries edits that turn the meaning of a crate's functions, each by the functions that it turns: all must be refused.
 
     python3 tools/try_edits.py [--plants | --must-fail] [--edit NAME].. [--jobs N] [--seconds N] [--apart]
-                               [--answers FILE] [--kept FOLDER] CRATE..
+                               [--proved] [--answers FILE] [--kept FOLDER] CRATE..
+    python3 tools/try_edits.py [..] --listed FILE
 
 The edits are tools/plants/CRATE/*.edit and crates/CRATE/must-fail/*.edit, or those of one of both folders, or those of
-the names that are given. They are tried on a copy in a temporary folder, so no file here changes. The copy has the
-libraries in out/rlib and the work that checks kept in out/, so that only what is cited is checked: `rt check` or
-`rt all check` before this makes it quick.
+the names that are given. --listed names a file instead, each line of which is CRATE/NAME: those edits of these crates.
+They are tried on a copy in a temporary folder, so no file here changes. The copy has the libraries in out/rlib and the
+work that checks kept in out/, so that only what is cited is checked: `rt check` or `rt all check` before this makes it
+quick.
 
 An edit turns the functions around the lines that it changes in src/. Another has a line `by: PATH[, PATH]`, which `rt`
 passes over: the functions, modules or types that must refuse it, by their paths below the crate. With neither the whole
@@ -15,7 +17,8 @@ crate is checked.
 
 These functions are checked without the edit first, over the same kept work. Edits of the bodies of different functions
 are tried in one check, since a proof reads the contracts of what it calls, and not their bodies; under --apart each is
-tried alone. So is each that such a check didn't refuse. A line comes for each edit:
+tried alone. So is each that such a check didn't refuse. Under --proved nothing is checked without the edits: the crates
+were proved just before, as by `rt ci`, and what their checks kept isn't asked for. A line comes for each edit:
 
     refused     one of these functions isn't proved with the edit, and is proved without it
     PROVED      they are all proved with it, and so is the whole crate: a contract says too little
@@ -27,8 +30,8 @@ of checks at a time, one if it is left out. --answers names a file of answers: w
 sources isn't tried again, and each new answer is added. --kept names a folder for the copy, which then stays with what
 was checked without edits, for a run that goes on.
 
-The status is 0 where every edit is refused, 1 where one isn't, and 2 where a crate has none. Where it is 1, the last
-line names the folder with what the prover said.
+The status is 0 where every edit is refused, 1 where one isn't, and 2 where a crate has none of those that are asked for.
+Where it is 1, the last line names the folder with what the prover said.
 """
 
 import argparse
@@ -369,6 +372,8 @@ class Trial:
         """The answer to an edit where something of it isn't there, or isn't proved without it."""
         if edit.bad:
             return BAD, edit.bad
+        if self.given.proved:
+            return None
         if not edit.by and self.without.status:
             return NOT_TRIED, "the crate isn't proved without it"
         unproved = self.without.unproved()
@@ -416,7 +421,8 @@ class Trial:
         if not edits:
             return
         self.base = self.base_room()
-        self.check_without(edits)
+        if not self.given.proved:
+            self.check_without(edits)
         lacking = [(edit, self.lacks(edit)) for edit in edits]
         for edit, answer in lacking:
             if answer:
@@ -532,7 +538,19 @@ def edits_in(given, crate):
     folders = [] if given.must_fail else [TOP / "tools/plants" / crate]
     folders += [] if given.plants else [TOP / "crates" / crate / "must-fail"]
     files = [file for folder in folders for file in sorted(folder.glob("*.edit"))]
+    if given.listed:
+        return [it for it in files if it.stem in given.listed.get(crate, [])]
     return [it for it in files if not given.edit or it.stem in given.edit]
+
+
+def listed_in(file):
+    """The names of the edits that a file lists, by their crates."""
+    found = {}
+    for line in Path(file).read_text(encoding="utf-8").splitlines():
+        crate, slash, name = line.partition("#")[0].strip().partition("/")
+        if slash:
+            found.setdefault(crate, []).append(name)
+    return found
 
 
 def answers_in(file):
@@ -554,10 +572,22 @@ def options():
     parser.add_argument("--jobs", type=int, default=1)
     parser.add_argument("--seconds", type=int, default=3600)
     parser.add_argument("--apart", action="store_true")
+    parser.add_argument("--proved", action="store_true")
     parser.add_argument("--answers")
     parser.add_argument("--kept", type=Path)
-    parser.add_argument("crates", nargs="+", metavar="CRATE")
-    return parser.parse_args()
+    parser.add_argument("--listed", type=listed_in)
+    parser.add_argument("crates", nargs="*", metavar="CRATE")
+    given = parser.parse_args()
+    given.crates = given.crates or list(given.listed or {})
+    if not given.crates:
+        parser.error("no crate is named")
+    return given
+
+
+def lacking(given, crate, known):
+    """Whether a crate isn't there, or an edit of it that is asked for."""
+    wanted = len(given.listed.get(crate, [])) if given.listed else 1
+    return crate not in known or len(edits_in(given, crate)) < max(1, wanted)
 
 
 def try_crate(crate, below, folder, given):
@@ -585,7 +615,7 @@ def try_crate(crate, below, folder, given):
 def main():
     given, known = options(), crates_of(TOP)
     for crate in given.crates:
-        if crate not in known or not edits_in(given, crate):
+        if lacking(given, crate, known):
             print(f"{crate} has no such edit", file=sys.stderr)
             return 2
     folder = given.kept or Path(tempfile.mkdtemp(prefix="try-edits-"))
