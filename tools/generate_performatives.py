@@ -56,20 +56,23 @@ DOCS = {"idle-time-out": "In milliseconds", "timeout": "In seconds", "role": "Tr
         "properties": "A map", "unsettled": "A map", "dynamic-node-properties": "A map", "filter": "A map",
         "address": "`None` also where it is no string"}
 RUST = {"boolean": "bool", "ubyte": "u8", "ushort": "u16", "uint": "u32", "ulong": "u64", "binary": "ByteText",
-        "string": "ByteText", "symbol": "ByteText", "address": "ByteText", "symbols": "Value10",
-        "mapping": "Value10", "anything": "Value10", "error": "Error10", "state": "State", "source": "Source10",
+        "string": "ByteText", "symbol": "ByteText", "address": "ByteText", "symbols": "Spelling10",
+        "mapping": "Spelling10", "anything": "Spelling10", "error": "Error10", "state": "State", "source": "Source10",
         "target": "Target10"}
+# Values of these types are kept as they are spelled, unless the field is mandatory: then it is asked for.
+KEPT = {"symbols", "mapping", "anything"}
 PLAIN = {"boolean", "ubyte", "ushort", "uint", "ulong"}
 COMPOSITE = {"error", "state", "source", "target"}
 STRUCT = {"error": "Error10", "source": "Source10", "target": "Target10"}
-VIEW = {"symbols": "value_tree", "mapping": "value_tree", "anything": "value_tree", "address": "a_string",
-        "error": "error_tree", "state": "state_tree", "source": "source_tree", "target": "target_tree"}
+VIEW = {"symbols": "a_value", "mapping": "a_value", "anything": "a_value", "address": "a_string", "error": "error_tree",
+        "state": "state_tree", "source": "source_tree", "target": "target_tree"}
 
 
 class Field:
     def __init__(self, name, kind, need, default):
         self.name, self.kind, self.need, self.default = name, kind, need, default
         self.rust = name.replace("-", "_")
+        self.built = kind in KEPT and need == "mandatory"
 
 
 def roots():
@@ -140,7 +143,7 @@ def rows_text(name, fields):
 
 
 def tree_of(field, whose):
-    make = VIEW.get(field.kind, f"a_{field.kind}")
+    make = "value_tree" if field.built else VIEW.get(field.kind, f"a_{field.kind}")
     what = f"{whose}.{field.rust}"
     return f"maybe {make} {what}" if field.need == "optional" else f"{make} {what}"
 
@@ -164,19 +167,18 @@ def struct_text(name, fields, struct):
     for field in fields:
         if field.name in DOCS:
             out.append(f"    /// {DOCS[field.name]}")
-        kind = RUST[field.kind]
+        kind = "Value10" if field.built else RUST[field.kind]
         kind = f"Option<{kind}>" if field.need == "optional" else kind
         out.append(f"    pub {field.rust}: {kind},")
     return "\n".join(out + ["}"])
 
 
 def getter(field, place):
-    alloc = "" if field.kind in PLAIN else "alloc, "
     if field.need == "mandatory":
-        return f"needed_{field.kind}({alloc}fields, {place})?"
+        return f"needed_{field.kind}(alloc, fields, {place})"
     if field.need == "optional":
-        return f"{field.kind}_at({alloc}fields, {place})?"
-    return f"{field.kind}_or({alloc}fields, {place}, {literal(field)})?"
+        return f"{field.kind}_at(alloc, fields, {place})"
+    return f"{field.kind}_or(alloc, fields, {place}, {literal(field)})"
 
 
 def literal(field):
@@ -185,20 +187,39 @@ def literal(field):
     return "u16::MAX" if field.default == "65535" else field.default
 
 
-def reader_text(name, fields, struct, ok, view, kind):
-    plain = all(field.kind in PLAIN for field in fields)
-    head = "fields: &ValueList" if plain else "alloc: Global, fields: &ValueList"
-    lines = [f"            {field.rust}: {getter(field, place)}," for place, field in enumerate(fields)]
-    body = "\n".join(lines)
+def read_lines(fields):
+    """The statements that read the fields in order. What owns memory is handed on by `both`, so that no `?` drops it."""
+    lines, held = [], []
+    for place, field in enumerate(fields):
+        call = getter(field, place)
+        whole = held[0] if len(held) == 1 else "read"
+        if not held:
+            lines.append(f"let {field.rust} = {call}?;")
+        elif field.kind in PLAIN:
+            lines.append(f"let ({whole}, {field.rust}) = both({whole}, {call})?;")
+        else:
+            lines.append(f"let read = both({whole}, {call})?;")
+        if field.kind not in PLAIN:
+            held.append(field.rust)
+    if len(held) > 1:
+        pattern = held[0]
+        for name in held[1:]:
+            pattern = f"({pattern}, {name})"
+        lines.append(f"let {pattern} = read;")
+    return lines
+
+
+def reader_text(name, fields, struct):
+    lines = "\n".join(f"    {line}" for line in read_lines(fields))
+    inits = "\n".join(f"        {field.rust}," for field in fields)
     return f"""/// The fields of {name}.
-{'pub(crate) ' if kind is None else ''}fn {snake(name)}_of({head}) -> Result<{ok}, Stop<PerfFault>>
-    ensures {{ Gives {view} result
-        ({f'perf_in PerfKind.{kind}' if kind else f'fields_in leaves_in {snake(name)}_rows 0'} (trees_of fields.now)) }}
+pub(crate) fn {snake(name)}_of(alloc: Global, fields: &SpelledList<'_>) -> Result<Perf, Stop<PerfFault>>
+    ensures {{ Gives parts_of result (perf_in PerfKind.{struct} (trees_of fields.now)) }}
 {{
-    let perf = {struct} {{
-{body}
-    }};
-    Ok({f'Perf::{kind}(perf)' if kind else 'perf'})
+{lines}
+    Ok(Perf::{struct}({struct} {{
+{inits}
+    }}))
 }}"""
 
 
@@ -209,7 +230,7 @@ def adder(field):
         if field.need == "default" and field.kind == "boolean":
             return f"fields.boolean_unless({what}, {field.default})?;"
         return f"fields.{'maybe_' if many else ''}{field.kind}({what})?;"
-    name = {"symbols": "value", "mapping": "value", "anything": "value", "address": "string"}.get(field.kind, field.kind)
+    name = "value" if field.built else "kept" if field.kind in KEPT else "string" if field.kind == "address" else field.kind
     return f"fields.{'maybe_' if many else ''}{name}(alloc, &{what})?;"
 
 
@@ -273,7 +294,7 @@ def view_file(types):
 use Rattle.std.specs.Prelude.{{List, [], ◌∷◌}}
 use Rattle.types_10.specs.Tree.{{Tree}}
 use Rattle.types_10.specs.View.{{value_tree}}
-use Rattle.performatives_10.specs.Fields.{{maybe, a_boolean, a_ubyte, a_ushort, a_uint, a_ulong, a_binary, a_string, a_symbol}}
+use Rattle.performatives_10.specs.Fields.{{maybe, a_boolean, a_ubyte, a_ushort, a_uint, a_ulong, a_binary, a_string, a_symbol, a_value}}
 use Rattle.performatives_10.specs.Rows.{{error_code, received_code, accepted_code, rejected_code, released_code, modified_code, source_code, target_code}}
 use Rattle.performatives_10.specs.Composites.{{composite}}
 use Rattle.performatives_10.specs.declared.kind.PerfKind.{{PerfKind}}
@@ -335,9 +356,9 @@ def performative_file(types):
     variants = "\n".join(f"    {camel(n)}({camel(n)})," for n in perfs)
     return f"""//! {GENERATED}
 //!
-//! The performatives as structs of their fields. An absent field is `None`, or its default where it has one.
+//! The performatives as structs of their fields. An absent field is `None`, or its default where it has one. Values that nobody asks for are kept as they are spelled.
 
-use types_10::Value10;
+use types_10::{{Spelling10, Value10}};
 use wire_base::ByteText;
 
 {parts[0]}
@@ -371,11 +392,10 @@ def module_file(module, types):
     readers, writers = [], []
     for name in names:
         code, fields = types[name]
-        text = reader_text(name, fields, camel(name), "Perf", "parts_of", camel(name))
-        readers.append(text.replace("fn ", "pub(crate) fn ", 1))
+        readers.append(reader_text(name, fields, camel(name)))
         writers.append(writer_text(name, fields, camel(name), True))
     body = "\n\n".join(x for pair in zip(readers, writers) for x in pair)
-    called = sorted(set(re.findall(r"\b((?:needed_)?[a-z]+(?:_at|_or)?)\((?:alloc, )?fields, \d", body)))
+    called = sorted(set(re.findall(r"\b(both|(?:needed_)?[a-z]+(?:_at|_or)?)\((?=alloc, fields, \d|\w+, \w+\(alloc)", body)))
     rows = ", ".join(f"{snake(n)}_rows" for n in names)
     views = ", ".join(f"{snake(n)}_fields" for n in names)
     structs = ", ".join(sorted([camel(n) for n in names] + ["Perf"]))
@@ -397,7 +417,7 @@ use crate::fault::PerfFault;
 use crate::getting::{{{", ".join(called)}}};
 use crate::kind::PerfKind;
 use crate::performative::{{{structs}}};
-{alloc}use types_10::ValueList;
+{alloc}use types_10::SpelledList;
 use wire_base::{{Memory, Stop}};
 
 {body}

@@ -2,5 +2,6 @@ pub mod FieldLaws
 pub mod Frames
 pub mod PerfLaws
 pub mod Places
+pub mod Scalars
 pub mod Trimming
 pub mod Written

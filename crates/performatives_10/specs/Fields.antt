@@ -78,6 +78,9 @@ a_string s = scalar (value.string s)
 abbrev pub a_symbol : List ℕ → Tree
 a_symbol s = scalar (value.symbol s)
 
+abbrev pub a_value : Tree → Tree
+a_value t = t
+
 abbrev pub absent : Tree
 absent = scalar value.null
 

@@ -5,7 +5,7 @@ use Rattle.std.specs.Prelude.{List, [], ◌∷◌}
 use Rattle.types_10.specs.Tree.{Tree}
 use Rattle.types_10.specs.View.{value_tree}
 use Rattle.performatives_10.specs.Fields.{maybe, a_boolean, a_ubyte, a_ushort, a_uint, a_ulong}
-use Rattle.performatives_10.specs.Fields.{a_binary, a_string, a_symbol}
+use Rattle.performatives_10.specs.Fields.{a_binary, a_string, a_symbol, a_value}
 use Rattle.performatives_10.specs.Rows.{error_code, received_code, accepted_code, rejected_code}
 use Rattle.performatives_10.specs.Rows.{released_code, modified_code, source_code, target_code}
 use Rattle.performatives_10.specs.Composites.{composite}
@@ -58,12 +58,12 @@ source_fields p =
     ∷ maybe a_symbol p.expiry_policy
     ∷ maybe a_uint p.timeout
     ∷ maybe a_boolean p.dynamic
-    ∷ maybe value_tree p.dynamic_node_properties
+    ∷ maybe a_value p.dynamic_node_properties
     ∷ maybe a_symbol p.distribution_mode
-    ∷ maybe value_tree p.filter
-    ∷ maybe value_tree p.default_outcome
-    ∷ maybe value_tree p.outcomes
-    ∷ maybe value_tree p.capabilities
+    ∷ maybe a_value p.filter
+    ∷ maybe a_value p.default_outcome
+    ∷ maybe a_value p.outcomes
+    ∷ maybe a_value p.capabilities
     ∷ []
 
 abbrev pub source_tree : Source10 → Tree
@@ -76,8 +76,8 @@ target_fields p =
     ∷ maybe a_symbol p.expiry_policy
     ∷ maybe a_uint p.timeout
     ∷ maybe a_boolean p.dynamic
-    ∷ maybe value_tree p.dynamic_node_properties
-    ∷ maybe value_tree p.capabilities
+    ∷ maybe a_value p.dynamic_node_properties
+    ∷ maybe a_value p.capabilities
     ∷ []
 
 abbrev pub target_tree : Target10 → Tree
@@ -90,11 +90,11 @@ open_fields p =
     ∷ a_uint p.max_frame_size
     ∷ a_ushort p.channel_max
     ∷ maybe a_uint p.idle_time_out
-    ∷ maybe value_tree p.outgoing_locales
-    ∷ maybe value_tree p.incoming_locales
-    ∷ maybe value_tree p.offered_capabilities
-    ∷ maybe value_tree p.desired_capabilities
-    ∷ maybe value_tree p.properties
+    ∷ maybe a_value p.outgoing_locales
+    ∷ maybe a_value p.incoming_locales
+    ∷ maybe a_value p.offered_capabilities
+    ∷ maybe a_value p.desired_capabilities
+    ∷ maybe a_value p.properties
     ∷ []
 
 abbrev pub begin_fields : Begin → List Tree
@@ -104,9 +104,9 @@ begin_fields p =
     ∷ a_uint p.incoming_window
     ∷ a_uint p.outgoing_window
     ∷ a_uint p.handle_max
-    ∷ maybe value_tree p.offered_capabilities
-    ∷ maybe value_tree p.desired_capabilities
-    ∷ maybe value_tree p.properties
+    ∷ maybe a_value p.offered_capabilities
+    ∷ maybe a_value p.desired_capabilities
+    ∷ maybe a_value p.properties
     ∷ []
 
 abbrev pub attach_fields : Attach → List Tree
@@ -118,13 +118,13 @@ attach_fields p =
     ∷ a_ubyte p.rcv_settle_mode
     ∷ maybe source_tree p.source
     ∷ maybe target_tree p.target
-    ∷ maybe value_tree p.unsettled
+    ∷ maybe a_value p.unsettled
     ∷ a_boolean p.incomplete_unsettled
     ∷ maybe a_uint p.initial_delivery_count
     ∷ maybe a_ulong p.max_message_size
-    ∷ maybe value_tree p.offered_capabilities
-    ∷ maybe value_tree p.desired_capabilities
-    ∷ maybe value_tree p.properties
+    ∷ maybe a_value p.offered_capabilities
+    ∷ maybe a_value p.desired_capabilities
+    ∷ maybe a_value p.properties
     ∷ []
 
 abbrev pub flow_fields : Flow → List Tree
@@ -139,7 +139,7 @@ flow_fields p =
     ∷ maybe a_uint p.available
     ∷ a_boolean p.drain
     ∷ a_boolean p.echo
-    ∷ maybe value_tree p.properties
+    ∷ maybe a_value p.properties
     ∷ []
 
 abbrev pub transfer_fields : Transfer → List Tree

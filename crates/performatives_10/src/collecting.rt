@@ -7,14 +7,14 @@ ghost use Rattle.types_10.specs.Tree.{scalar, ulong, boolean, described, list, t
 ghost use Rattle.types_10.specs.View.{value_tree};
 ghost use Rattle.performatives_10.specs.Fields.{defaults, absent, is_absent, maybe, a_boolean};
 ghost use Rattle.performatives_10.specs.Fields.{a_ubyte, a_ushort, a_uint, a_ulong, a_binary};
-ghost use Rattle.performatives_10.specs.Fields.{a_string, a_symbol};
+ghost use Rattle.performatives_10.specs.Fields.{a_string, a_symbol, a_value};
 ghost use Rattle.performatives_10.specs.View.{error_tree, state_tree, source_tree, target_tree};
 ghost use Rattle.performatives_10.specs.Writing.{written_field, added, no_fields, nulls};
 
 use crate::composing::{error_value, source_value, state_value, target_value};
 use crate::performative::{Error10, Source10, State, Target10};
 use std::alloc::Global;
-use types_10::{Value10, ValueList};
+use types_10::{Spelling10, Value10, ValueList};
 use wire_base::{ByteText, Memory};
 
 /// Fields without the nulls at their end, and how many of these there are.
@@ -234,24 +234,37 @@ impl Fields {
 
     /// Adds any value; null is absent.
     #[tactic(auto, unfolding(crate::specs::Writing::added))]
+    fn whole(&mut self, value: Value10) -> Result<(), Memory>
+        ensures { OnOk result (self.new ≡ added self.old (value_tree value)) }
+    {
+        if is_null(&value) {
+            return self.absent();
+        }
+        self.push(value)
+    }
+
     pub(crate) fn value(&mut self, alloc: Global, value: &Value10) -> Result<(), Memory>
         ensures { OnOk result (self.new ≡ added self.old (value_tree value.now)) }
     {
-        if is_null(value) {
-            return self.absent();
-        }
-        self.push(value.copy(alloc)?)
+        self.whole(value.copy(alloc)?)
     }
 
-    pub(crate) fn maybe_value(
+    /// Adds the value that these bytes spell.
+    pub(crate) fn kept(&mut self, alloc: Global, kept: &Spelling10) -> Result<(), Memory>
+        ensures { OnOk result (self.new ≡ added self.old (a_value kept.now)) }
+    {
+        self.whole(kept.spelled().read(alloc)?)
+    }
+
+    pub(crate) fn maybe_kept(
         &mut self,
         alloc: Global,
-        value: &Option<Value10>,
+        kept: &Option<Spelling10>,
     ) -> Result<(), Memory>
-        ensures { OnOk result (self.new ≡ added self.old (maybe value_tree value.now)) }
+        ensures { OnOk result (self.new ≡ added self.old (maybe a_value kept.now)) }
     {
-        match value {
-            Some(value) => self.value(alloc, value),
+        match kept {
+            Some(kept) => self.kept(alloc, kept),
             None => self.absent(),
         }
     }

@@ -88,12 +88,12 @@ fn source_written(alloc: Global, source: &Source10) -> Result<Fields, Memory>
     fields.maybe_symbol(alloc, &source.expiry_policy)?;
     fields.maybe_uint(source.timeout)?;
     fields.maybe_boolean(source.dynamic)?;
-    fields.maybe_value(alloc, &source.dynamic_node_properties)?;
+    fields.maybe_kept(alloc, &source.dynamic_node_properties)?;
     fields.maybe_symbol(alloc, &source.distribution_mode)?;
-    fields.maybe_value(alloc, &source.filter)?;
-    fields.maybe_value(alloc, &source.default_outcome)?;
-    fields.maybe_value(alloc, &source.outcomes)?;
-    fields.maybe_value(alloc, &source.capabilities)?;
+    fields.maybe_kept(alloc, &source.filter)?;
+    fields.maybe_kept(alloc, &source.default_outcome)?;
+    fields.maybe_kept(alloc, &source.outcomes)?;
+    fields.maybe_kept(alloc, &source.capabilities)?;
     Ok(fields)
 }
 
@@ -113,8 +113,8 @@ fn target_written(alloc: Global, target: &Target10) -> Result<Fields, Memory>
     fields.maybe_symbol(alloc, &target.expiry_policy)?;
     fields.maybe_uint(target.timeout)?;
     fields.maybe_boolean(target.dynamic)?;
-    fields.maybe_value(alloc, &target.dynamic_node_properties)?;
-    fields.maybe_value(alloc, &target.capabilities)?;
+    fields.maybe_kept(alloc, &target.dynamic_node_properties)?;
+    fields.maybe_kept(alloc, &target.capabilities)?;
     Ok(fields)
 }
 

@@ -13,32 +13,50 @@ ghost use Rattle.performatives_10.specs.Writing.{written, all_added, no_fields};
 use crate::collecting::Fields;
 use crate::fault::PerfFault;
 use crate::getting::{
-    error_at, mapping_at, needed_string, string_at, symbols_at, uint_at, uint_or, ushort_or,
+    both, error_at, mapping_at, needed_string, string_at, symbols_at, uint_at, uint_or, ushort_or,
 };
 use crate::kind::PerfKind;
 use crate::performative::{Close, Open, Perf};
 use std::alloc::Global;
-use types_10::ValueList;
+use types_10::SpelledList;
 use wire_base::{Memory, Stop};
 
 /// The fields of open.
-pub(crate) fn open_of(alloc: Global, fields: &ValueList) -> Result<Perf, Stop<PerfFault>>
-    ensures { Gives parts_of result
-        (perf_in PerfKind.Open (trees_of fields.now)) }
+pub(crate) fn open_of(alloc: Global, fields: &SpelledList<'_>) -> Result<Perf, Stop<PerfFault>>
+    ensures { Gives parts_of result (perf_in PerfKind.Open (trees_of fields.now)) }
 {
-    let perf = Open {
-        container_id: needed_string(alloc, fields, 0)?,
-        hostname: string_at(alloc, fields, 1)?,
-        max_frame_size: uint_or(fields, 2, u32::MAX)?,
-        channel_max: ushort_or(fields, 3, u16::MAX)?,
-        idle_time_out: uint_at(fields, 4)?,
-        outgoing_locales: symbols_at(alloc, fields, 5)?,
-        incoming_locales: symbols_at(alloc, fields, 6)?,
-        offered_capabilities: symbols_at(alloc, fields, 7)?,
-        desired_capabilities: symbols_at(alloc, fields, 8)?,
-        properties: mapping_at(alloc, fields, 9)?,
-    };
-    Ok(Perf::Open(perf))
+    let container_id = needed_string(alloc, fields, 0)?;
+    let read = both(container_id, string_at(alloc, fields, 1))?;
+    let (read, max_frame_size) = both(read, uint_or(alloc, fields, 2, u32::MAX))?;
+    let (read, channel_max) = both(read, ushort_or(alloc, fields, 3, u16::MAX))?;
+    let (read, idle_time_out) = both(read, uint_at(alloc, fields, 4))?;
+    let read = both(read, symbols_at(alloc, fields, 5))?;
+    let read = both(read, symbols_at(alloc, fields, 6))?;
+    let read = both(read, symbols_at(alloc, fields, 7))?;
+    let read = both(read, symbols_at(alloc, fields, 8))?;
+    let read = both(read, mapping_at(alloc, fields, 9))?;
+    let (
+        (
+            (
+                (((container_id, hostname), outgoing_locales), incoming_locales),
+                offered_capabilities,
+            ),
+            desired_capabilities,
+        ),
+        properties,
+    ) = read;
+    Ok(Perf::Open(Open {
+        container_id,
+        hostname,
+        max_frame_size,
+        channel_max,
+        idle_time_out,
+        outgoing_locales,
+        incoming_locales,
+        offered_capabilities,
+        desired_capabilities,
+        properties,
+    }))
 }
 
 /// What is written of the fields of open.
@@ -52,23 +70,20 @@ pub(crate) fn open_written(alloc: Global, perf: &Open) -> Result<Fields, Memory>
     fields.uint(perf.max_frame_size)?;
     fields.ushort(perf.channel_max)?;
     fields.maybe_uint(perf.idle_time_out)?;
-    fields.maybe_value(alloc, &perf.outgoing_locales)?;
-    fields.maybe_value(alloc, &perf.incoming_locales)?;
-    fields.maybe_value(alloc, &perf.offered_capabilities)?;
-    fields.maybe_value(alloc, &perf.desired_capabilities)?;
-    fields.maybe_value(alloc, &perf.properties)?;
+    fields.maybe_kept(alloc, &perf.outgoing_locales)?;
+    fields.maybe_kept(alloc, &perf.incoming_locales)?;
+    fields.maybe_kept(alloc, &perf.offered_capabilities)?;
+    fields.maybe_kept(alloc, &perf.desired_capabilities)?;
+    fields.maybe_kept(alloc, &perf.properties)?;
     Ok(fields)
 }
 
 /// The fields of close.
-pub(crate) fn close_of(alloc: Global, fields: &ValueList) -> Result<Perf, Stop<PerfFault>>
-    ensures { Gives parts_of result
-        (perf_in PerfKind.Close (trees_of fields.now)) }
+pub(crate) fn close_of(alloc: Global, fields: &SpelledList<'_>) -> Result<Perf, Stop<PerfFault>>
+    ensures { Gives parts_of result (perf_in PerfKind.Close (trees_of fields.now)) }
 {
-    let perf = Close {
-        error: error_at(alloc, fields, 0)?,
-    };
-    Ok(Perf::Close(perf))
+    let error = error_at(alloc, fields, 0)?;
+    Ok(Perf::Close(Close { error }))
 }
 
 /// What is written of the fields of close.

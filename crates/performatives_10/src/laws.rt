@@ -22,8 +22,8 @@ ghost use Rattle.performatives_10.specs.Writing.{perf_tree, perf_text};
 /// The laws of performatives, for proofs to cite; the call does nothing.
 ///
 /// `HasTypes` says that each field of a performative has the type of its row, which only fields of
-/// the type `Value10` and the state `Received` can break. `IsRanged` says that the numbers inside
-/// are of their types, as they are.
+/// the types `Spelling10` and `Value10` and the state `Received` can break. `IsRanged` says that the
+/// numbers inside are of their types, as they are.
 pub fn perf_laws()
     // A performative is read exactly where bytes begin with one.
     ensures read { (p : Perf) (bytes : List ℕ) (after : ℕ) → IsBytes bytes

@@ -15,37 +15,53 @@ ghost use Rattle.performatives_10.specs.Writing.{written, all_added, no_fields};
 use crate::collecting::Fields;
 use crate::fault::PerfFault;
 use crate::getting::{
-    binary_at, boolean_at, boolean_or, error_at, mapping_at, needed_boolean, needed_string,
+    binary_at, boolean_at, boolean_or, both, error_at, mapping_at, needed_boolean, needed_string,
     needed_uint, source_at, state_at, symbols_at, target_at, ubyte_at, ubyte_or, uint_at, ulong_at,
 };
 use crate::kind::PerfKind;
 use crate::performative::{Attach, Detach, Disposition, Flow, Perf, Transfer};
 use std::alloc::Global;
-use types_10::ValueList;
+use types_10::SpelledList;
 use wire_base::{Memory, Stop};
 
 /// The fields of attach.
-pub(crate) fn attach_of(alloc: Global, fields: &ValueList) -> Result<Perf, Stop<PerfFault>>
-    ensures { Gives parts_of result
-        (perf_in PerfKind.Attach (trees_of fields.now)) }
+pub(crate) fn attach_of(alloc: Global, fields: &SpelledList<'_>) -> Result<Perf, Stop<PerfFault>>
+    ensures { Gives parts_of result (perf_in PerfKind.Attach (trees_of fields.now)) }
 {
-    let perf = Attach {
-        name: needed_string(alloc, fields, 0)?,
-        handle: needed_uint(fields, 1)?,
-        role: needed_boolean(fields, 2)?,
-        snd_settle_mode: ubyte_or(fields, 3, 2)?,
-        rcv_settle_mode: ubyte_or(fields, 4, 0)?,
-        source: source_at(alloc, fields, 5)?,
-        target: target_at(alloc, fields, 6)?,
-        unsettled: mapping_at(alloc, fields, 7)?,
-        incomplete_unsettled: boolean_or(fields, 8, false)?,
-        initial_delivery_count: uint_at(fields, 9)?,
-        max_message_size: ulong_at(fields, 10)?,
-        offered_capabilities: symbols_at(alloc, fields, 11)?,
-        desired_capabilities: symbols_at(alloc, fields, 12)?,
-        properties: mapping_at(alloc, fields, 13)?,
-    };
-    Ok(Perf::Attach(perf))
+    let name = needed_string(alloc, fields, 0)?;
+    let (name, handle) = both(name, needed_uint(alloc, fields, 1))?;
+    let (name, role) = both(name, needed_boolean(alloc, fields, 2))?;
+    let (name, snd_settle_mode) = both(name, ubyte_or(alloc, fields, 3, 2))?;
+    let (name, rcv_settle_mode) = both(name, ubyte_or(alloc, fields, 4, 0))?;
+    let read = both(name, source_at(alloc, fields, 5))?;
+    let read = both(read, target_at(alloc, fields, 6))?;
+    let read = both(read, mapping_at(alloc, fields, 7))?;
+    let (read, incomplete_unsettled) = both(read, boolean_or(alloc, fields, 8, false))?;
+    let (read, initial_delivery_count) = both(read, uint_at(alloc, fields, 9))?;
+    let (read, max_message_size) = both(read, ulong_at(alloc, fields, 10))?;
+    let read = both(read, symbols_at(alloc, fields, 11))?;
+    let read = both(read, symbols_at(alloc, fields, 12))?;
+    let read = both(read, mapping_at(alloc, fields, 13))?;
+    let (
+        (((((name, source), target), unsettled), offered_capabilities), desired_capabilities),
+        properties,
+    ) = read;
+    Ok(Perf::Attach(Attach {
+        name,
+        handle,
+        role,
+        snd_settle_mode,
+        rcv_settle_mode,
+        source,
+        target,
+        unsettled,
+        incomplete_unsettled,
+        initial_delivery_count,
+        max_message_size,
+        offered_capabilities,
+        desired_capabilities,
+        properties,
+    }))
 }
 
 /// What is written of the fields of attach.
@@ -61,35 +77,44 @@ pub(crate) fn attach_written(alloc: Global, perf: &Attach) -> Result<Fields, Mem
     fields.ubyte(perf.rcv_settle_mode)?;
     fields.maybe_source(alloc, &perf.source)?;
     fields.maybe_target(alloc, &perf.target)?;
-    fields.maybe_value(alloc, &perf.unsettled)?;
+    fields.maybe_kept(alloc, &perf.unsettled)?;
     fields.boolean_unless(perf.incomplete_unsettled, false)?;
     fields.maybe_uint(perf.initial_delivery_count)?;
     fields.maybe_ulong(perf.max_message_size)?;
-    fields.maybe_value(alloc, &perf.offered_capabilities)?;
-    fields.maybe_value(alloc, &perf.desired_capabilities)?;
-    fields.maybe_value(alloc, &perf.properties)?;
+    fields.maybe_kept(alloc, &perf.offered_capabilities)?;
+    fields.maybe_kept(alloc, &perf.desired_capabilities)?;
+    fields.maybe_kept(alloc, &perf.properties)?;
     Ok(fields)
 }
 
 /// The fields of flow.
-pub(crate) fn flow_of(alloc: Global, fields: &ValueList) -> Result<Perf, Stop<PerfFault>>
-    ensures { Gives parts_of result
-        (perf_in PerfKind.Flow (trees_of fields.now)) }
+pub(crate) fn flow_of(alloc: Global, fields: &SpelledList<'_>) -> Result<Perf, Stop<PerfFault>>
+    ensures { Gives parts_of result (perf_in PerfKind.Flow (trees_of fields.now)) }
 {
-    let perf = Flow {
-        next_incoming_id: uint_at(fields, 0)?,
-        incoming_window: needed_uint(fields, 1)?,
-        next_outgoing_id: needed_uint(fields, 2)?,
-        outgoing_window: needed_uint(fields, 3)?,
-        handle: uint_at(fields, 4)?,
-        delivery_count: uint_at(fields, 5)?,
-        link_credit: uint_at(fields, 6)?,
-        available: uint_at(fields, 7)?,
-        drain: boolean_or(fields, 8, false)?,
-        echo: boolean_or(fields, 9, false)?,
-        properties: mapping_at(alloc, fields, 10)?,
-    };
-    Ok(Perf::Flow(perf))
+    let next_incoming_id = uint_at(alloc, fields, 0)?;
+    let incoming_window = needed_uint(alloc, fields, 1)?;
+    let next_outgoing_id = needed_uint(alloc, fields, 2)?;
+    let outgoing_window = needed_uint(alloc, fields, 3)?;
+    let handle = uint_at(alloc, fields, 4)?;
+    let delivery_count = uint_at(alloc, fields, 5)?;
+    let link_credit = uint_at(alloc, fields, 6)?;
+    let available = uint_at(alloc, fields, 7)?;
+    let drain = boolean_or(alloc, fields, 8, false)?;
+    let echo = boolean_or(alloc, fields, 9, false)?;
+    let properties = mapping_at(alloc, fields, 10)?;
+    Ok(Perf::Flow(Flow {
+        next_incoming_id,
+        incoming_window,
+        next_outgoing_id,
+        outgoing_window,
+        handle,
+        delivery_count,
+        link_credit,
+        available,
+        drain,
+        echo,
+        properties,
+    }))
 }
 
 /// What is written of the fields of flow.
@@ -108,29 +133,39 @@ pub(crate) fn flow_written(alloc: Global, perf: &Flow) -> Result<Fields, Memory>
     fields.maybe_uint(perf.available)?;
     fields.boolean_unless(perf.drain, false)?;
     fields.boolean_unless(perf.echo, false)?;
-    fields.maybe_value(alloc, &perf.properties)?;
+    fields.maybe_kept(alloc, &perf.properties)?;
     Ok(fields)
 }
 
 /// The fields of transfer.
-pub(crate) fn transfer_of(alloc: Global, fields: &ValueList) -> Result<Perf, Stop<PerfFault>>
-    ensures { Gives parts_of result
-        (perf_in PerfKind.Transfer (trees_of fields.now)) }
+pub(crate) fn transfer_of(alloc: Global, fields: &SpelledList<'_>) -> Result<Perf, Stop<PerfFault>>
+    ensures { Gives parts_of result (perf_in PerfKind.Transfer (trees_of fields.now)) }
 {
-    let perf = Transfer {
-        handle: needed_uint(fields, 0)?,
-        delivery_id: uint_at(fields, 1)?,
-        delivery_tag: binary_at(alloc, fields, 2)?,
-        message_format: uint_at(fields, 3)?,
-        settled: boolean_at(fields, 4)?,
-        more: boolean_or(fields, 5, false)?,
-        rcv_settle_mode: ubyte_at(fields, 6)?,
-        state: state_at(alloc, fields, 7)?,
-        resume: boolean_or(fields, 8, false)?,
-        aborted: boolean_or(fields, 9, false)?,
-        batchable: boolean_or(fields, 10, false)?,
-    };
-    Ok(Perf::Transfer(perf))
+    let handle = needed_uint(alloc, fields, 0)?;
+    let delivery_id = uint_at(alloc, fields, 1)?;
+    let delivery_tag = binary_at(alloc, fields, 2)?;
+    let (delivery_tag, message_format) = both(delivery_tag, uint_at(alloc, fields, 3))?;
+    let (delivery_tag, settled) = both(delivery_tag, boolean_at(alloc, fields, 4))?;
+    let (delivery_tag, more) = both(delivery_tag, boolean_or(alloc, fields, 5, false))?;
+    let (delivery_tag, rcv_settle_mode) = both(delivery_tag, ubyte_at(alloc, fields, 6))?;
+    let read = both(delivery_tag, state_at(alloc, fields, 7))?;
+    let (read, resume) = both(read, boolean_or(alloc, fields, 8, false))?;
+    let (read, aborted) = both(read, boolean_or(alloc, fields, 9, false))?;
+    let (read, batchable) = both(read, boolean_or(alloc, fields, 10, false))?;
+    let (delivery_tag, state) = read;
+    Ok(Perf::Transfer(Transfer {
+        handle,
+        delivery_id,
+        delivery_tag,
+        message_format,
+        settled,
+        more,
+        rcv_settle_mode,
+        state,
+        resume,
+        aborted,
+        batchable,
+    }))
 }
 
 /// What is written of the fields of transfer.
@@ -154,19 +189,26 @@ pub(crate) fn transfer_written(alloc: Global, perf: &Transfer) -> Result<Fields,
 }
 
 /// The fields of disposition.
-pub(crate) fn disposition_of(alloc: Global, fields: &ValueList) -> Result<Perf, Stop<PerfFault>>
-    ensures { Gives parts_of result
-        (perf_in PerfKind.Disposition (trees_of fields.now)) }
+pub(crate) fn disposition_of(
+    alloc: Global,
+    fields: &SpelledList<'_>,
+) -> Result<Perf, Stop<PerfFault>>
+    ensures { Gives parts_of result (perf_in PerfKind.Disposition (trees_of fields.now)) }
 {
-    let perf = Disposition {
-        role: needed_boolean(fields, 0)?,
-        first: needed_uint(fields, 1)?,
-        last: uint_at(fields, 2)?,
-        settled: boolean_or(fields, 3, false)?,
-        state: state_at(alloc, fields, 4)?,
-        batchable: boolean_or(fields, 5, false)?,
-    };
-    Ok(Perf::Disposition(perf))
+    let role = needed_boolean(alloc, fields, 0)?;
+    let first = needed_uint(alloc, fields, 1)?;
+    let last = uint_at(alloc, fields, 2)?;
+    let settled = boolean_or(alloc, fields, 3, false)?;
+    let state = state_at(alloc, fields, 4)?;
+    let (state, batchable) = both(state, boolean_or(alloc, fields, 5, false))?;
+    Ok(Perf::Disposition(Disposition {
+        role,
+        first,
+        last,
+        settled,
+        state,
+        batchable,
+    }))
 }
 
 /// What is written of the fields of disposition.
@@ -185,16 +227,17 @@ pub(crate) fn disposition_written(alloc: Global, perf: &Disposition) -> Result<F
 }
 
 /// The fields of detach.
-pub(crate) fn detach_of(alloc: Global, fields: &ValueList) -> Result<Perf, Stop<PerfFault>>
-    ensures { Gives parts_of result
-        (perf_in PerfKind.Detach (trees_of fields.now)) }
+pub(crate) fn detach_of(alloc: Global, fields: &SpelledList<'_>) -> Result<Perf, Stop<PerfFault>>
+    ensures { Gives parts_of result (perf_in PerfKind.Detach (trees_of fields.now)) }
 {
-    let perf = Detach {
-        handle: needed_uint(fields, 0)?,
-        closed: boolean_or(fields, 1, false)?,
-        error: error_at(alloc, fields, 2)?,
-    };
-    Ok(Perf::Detach(perf))
+    let handle = needed_uint(alloc, fields, 0)?;
+    let closed = boolean_or(alloc, fields, 1, false)?;
+    let error = error_at(alloc, fields, 2)?;
+    Ok(Perf::Detach(Detach {
+        handle,
+        closed,
+        error,
+    }))
 }
 
 /// What is written of the fields of detach.

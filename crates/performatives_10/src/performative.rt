@@ -1,9 +1,9 @@
 //! This file is written by tools/generate_performatives.py from the definition of AMQP 1.0.
 //!
 //! The performatives as structs of their fields. An absent field is `None`, or its default where it
-//! has one.
+//! has one. Values that nobody asks for are kept as they are spelled.
 
-use types_10::Value10;
+use types_10::{Spelling10, Value10};
 use wire_base::ByteText;
 
 /// An error (AMQP 1.0 2.8.14). Its information is dropped.
@@ -36,13 +36,13 @@ pub struct Source10 {
     pub timeout: Option<u32>,
     pub dynamic: Option<bool>,
     /// A map
-    pub dynamic_node_properties: Option<Value10>,
+    pub dynamic_node_properties: Option<Spelling10>,
     pub distribution_mode: Option<ByteText>,
     /// A map
-    pub filter: Option<Value10>,
-    pub default_outcome: Option<Value10>,
-    pub outcomes: Option<Value10>,
-    pub capabilities: Option<Value10>,
+    pub filter: Option<Spelling10>,
+    pub default_outcome: Option<Spelling10>,
+    pub outcomes: Option<Spelling10>,
+    pub capabilities: Option<Spelling10>,
 }
 
 /// A target (AMQP 1.0 3.5.4).
@@ -57,8 +57,8 @@ pub struct Target10 {
     pub timeout: Option<u32>,
     pub dynamic: Option<bool>,
     /// A map
-    pub dynamic_node_properties: Option<Value10>,
-    pub capabilities: Option<Value10>,
+    pub dynamic_node_properties: Option<Spelling10>,
+    pub capabilities: Option<Spelling10>,
 }
 
 /// An open (AMQP 1.0 2.7.1).
@@ -72,15 +72,15 @@ pub struct Open {
     /// In milliseconds
     pub idle_time_out: Option<u32>,
     /// One symbol, or an array of symbols
-    pub outgoing_locales: Option<Value10>,
+    pub outgoing_locales: Option<Spelling10>,
     /// One symbol, or an array of symbols
-    pub incoming_locales: Option<Value10>,
+    pub incoming_locales: Option<Spelling10>,
     /// One symbol, or an array of symbols
-    pub offered_capabilities: Option<Value10>,
+    pub offered_capabilities: Option<Spelling10>,
     /// One symbol, or an array of symbols
-    pub desired_capabilities: Option<Value10>,
+    pub desired_capabilities: Option<Spelling10>,
     /// A map
-    pub properties: Option<Value10>,
+    pub properties: Option<Spelling10>,
 }
 
 /// A begin (AMQP 1.0 2.7.2).
@@ -92,11 +92,11 @@ pub struct Begin {
     pub outgoing_window: u32,
     pub handle_max: u32,
     /// One symbol, or an array of symbols
-    pub offered_capabilities: Option<Value10>,
+    pub offered_capabilities: Option<Spelling10>,
     /// One symbol, or an array of symbols
-    pub desired_capabilities: Option<Value10>,
+    pub desired_capabilities: Option<Spelling10>,
     /// A map
-    pub properties: Option<Value10>,
+    pub properties: Option<Spelling10>,
 }
 
 /// An attach (AMQP 1.0 2.7.3).
@@ -113,17 +113,17 @@ pub struct Attach {
     pub source: Option<Source10>,
     pub target: Option<Target10>,
     /// A map
-    pub unsettled: Option<Value10>,
+    pub unsettled: Option<Spelling10>,
     pub incomplete_unsettled: bool,
     pub initial_delivery_count: Option<u32>,
     /// In bytes
     pub max_message_size: Option<u64>,
     /// One symbol, or an array of symbols
-    pub offered_capabilities: Option<Value10>,
+    pub offered_capabilities: Option<Spelling10>,
     /// One symbol, or an array of symbols
-    pub desired_capabilities: Option<Value10>,
+    pub desired_capabilities: Option<Spelling10>,
     /// A map
-    pub properties: Option<Value10>,
+    pub properties: Option<Spelling10>,
 }
 
 /// A flow (AMQP 1.0 2.7.4).
@@ -140,7 +140,7 @@ pub struct Flow {
     pub drain: bool,
     pub echo: bool,
     /// A map
-    pub properties: Option<Value10>,
+    pub properties: Option<Spelling10>,
 }
 
 /// A transfer (AMQP 1.0 2.7.5).

@@ -3,7 +3,6 @@
 ghost use Rattle.std.specs.Prelude.{◌≡◌, ℕ, Option, Some, None, Ok, Err, IfOk, IfErr, IsOkAnd};
 ghost use Rattle.wire_base.specs.Reading.{Gives};
 ghost use Rattle.types_10.specs.Tree.{trees_of};
-ghost use Rattle.types_10.specs.View.{value_tree};
 ghost use Rattle.performatives_10.specs.View.{parts_of};
 ghost use Rattle.performatives_10.specs.Reading.{perf_in, perf_of, perf_at, seen};
 ghost use Rattle.performatives_10.specs.Grammar.{IsPerfAt, IsPerfFault};
@@ -15,11 +14,11 @@ use crate::kind::{PerfKind, kind_at};
 use crate::performative::Perf;
 use crate::{connection, link, sasl, session};
 use std::alloc::Global;
-use types_10::{Value10, ValueList, read_value};
+use types_10::{Spelled, SpelledList};
 use wire_base::{Memory, Stop};
 
 /// The performative of this kind with these fields.
-fn perf_in(alloc: Global, kind: PerfKind, fields: &ValueList) -> Result<Perf, Stop<PerfFault>>
+fn perf_in(alloc: Global, kind: PerfKind, fields: &SpelledList<'_>) -> Result<Perf, Stop<PerfFault>>
     ensures { Gives parts_of result (perf_in kind (trees_of fields.now)) }
 {
     match kind {
@@ -42,23 +41,23 @@ fn perf_in(alloc: Global, kind: PerfKind, fields: &ValueList) -> Result<Perf, St
 
 /// The performative that a value is.
 #[tactic(auto, unfolding(crate::specs::Reading::perf_of))]
-fn perf_of(alloc: Global, value: &Value10) -> Result<Perf, Stop<PerfFault>>
-    ensures { Gives parts_of result (perf_of (value_tree value.now)) }
+fn perf_of(alloc: Global, value: &Spelled<'_>) -> Result<Perf, Stop<PerfFault>>
+    ensures { Gives parts_of result (perf_of value.now) }
 {
-    let Some((code, fields)) = described_list(value) else {
+    let Some((code, fields)) = described_list(alloc, value)? else {
         return Err(Stop::Fault(PerfFault::UnknownDescriptor));
     };
     let Some(kind) = kind_at(code) else {
         return Err(Stop::Fault(PerfFault::UnknownDescriptor));
     };
-    perf_in(alloc, kind, fields)
+    perf_in(alloc, kind, &fields)
 }
 
 /// What was read, or the fault.
 fn perf_from(alloc: Global, body: &[u8]) -> Result<Result<(Perf, usize), PerfFault>, Memory>
     ensures { IfOk result (λ read. seen read ≡ perf_at body.now) }
 {
-    let (value, after) = match read_value(alloc, body, 0)? {
+    let (value, after) = match Spelled::at(body, 0) {
         Ok(read) => read,
         Err(fault) => return Ok(Err(PerfFault::Value(fault))),
     };
@@ -73,13 +72,16 @@ fn perf_from(alloc: Global, body: &[u8]) -> Result<Result<(Perf, usize), PerfFau
 /// behind it, where the payload begins. An absent field has its default, where it has one. Fields
 /// past the last are ignored.
 ///
+/// What nobody asks for is read past, and kept as the bytes that spell it: the fields of the type
+/// `Spelling10`. So no values are built for a body but those of its first level.
+///
 /// Of errors, states and termini a part is dropped: the information of an error; all of a state but
 /// the error of a rejection; and an address that is no string is read as absent.
 ///
 /// # Errors
 ///
 /// `Value` where no value stands at the front of the body, with the fault and its place, as
-/// `read_value` tells it.
+/// `Spelled::at` tells it.
 ///
 /// `UnknownDescriptor` where the value is no described list with the code of a performative as a
 /// ulong.

@@ -17,25 +17,25 @@ ghost use Rattle.performatives_10.specs.Writing.{written, all_added, no_fields};
 use crate::collecting::Fields;
 use crate::fault::PerfFault;
 use crate::getting::{
-    binary_at, needed_binary, needed_symbol, needed_symbols, needed_ubyte, string_at,
+    binary_at, both, needed_binary, needed_symbol, needed_symbols, needed_ubyte, string_at,
 };
 use crate::kind::PerfKind;
 use crate::performative::{
     Perf, SaslChallenge, SaslInit, SaslMechanisms, SaslOutcome, SaslResponse,
 };
 use std::alloc::Global;
-use types_10::ValueList;
+use types_10::SpelledList;
 use wire_base::{Memory, Stop};
 
 /// The fields of sasl-mechanisms.
-pub(crate) fn sasl_mechanisms_of(alloc: Global, fields: &ValueList) -> Result<Perf, Stop<PerfFault>>
-    ensures { Gives parts_of result
-        (perf_in PerfKind.SaslMechanisms (trees_of fields.now)) }
+pub(crate) fn sasl_mechanisms_of(
+    alloc: Global,
+    fields: &SpelledList<'_>,
+) -> Result<Perf, Stop<PerfFault>>
+    ensures { Gives parts_of result (perf_in PerfKind.SaslMechanisms (trees_of fields.now)) }
 {
-    let perf = SaslMechanisms {
-        mechanisms: needed_symbols(alloc, fields, 0)?,
-    };
-    Ok(Perf::SaslMechanisms(perf))
+    let mechanisms = needed_symbols(alloc, fields, 0)?;
+    Ok(Perf::SaslMechanisms(SaslMechanisms { mechanisms }))
 }
 
 /// What is written of the fields of sasl-mechanisms.
@@ -52,16 +52,18 @@ pub(crate) fn sasl_mechanisms_written(
 }
 
 /// The fields of sasl-init.
-pub(crate) fn sasl_init_of(alloc: Global, fields: &ValueList) -> Result<Perf, Stop<PerfFault>>
-    ensures { Gives parts_of result
-        (perf_in PerfKind.SaslInit (trees_of fields.now)) }
+pub(crate) fn sasl_init_of(alloc: Global, fields: &SpelledList<'_>) -> Result<Perf, Stop<PerfFault>>
+    ensures { Gives parts_of result (perf_in PerfKind.SaslInit (trees_of fields.now)) }
 {
-    let perf = SaslInit {
-        mechanism: needed_symbol(alloc, fields, 0)?,
-        initial_response: binary_at(alloc, fields, 1)?,
-        hostname: string_at(alloc, fields, 2)?,
-    };
-    Ok(Perf::SaslInit(perf))
+    let mechanism = needed_symbol(alloc, fields, 0)?;
+    let read = both(mechanism, binary_at(alloc, fields, 1))?;
+    let read = both(read, string_at(alloc, fields, 2))?;
+    let ((mechanism, initial_response), hostname) = read;
+    Ok(Perf::SaslInit(SaslInit {
+        mechanism,
+        initial_response,
+        hostname,
+    }))
 }
 
 /// What is written of the fields of sasl-init.
@@ -77,14 +79,14 @@ pub(crate) fn sasl_init_written(alloc: Global, perf: &SaslInit) -> Result<Fields
 }
 
 /// The fields of sasl-challenge.
-pub(crate) fn sasl_challenge_of(alloc: Global, fields: &ValueList) -> Result<Perf, Stop<PerfFault>>
-    ensures { Gives parts_of result
-        (perf_in PerfKind.SaslChallenge (trees_of fields.now)) }
+pub(crate) fn sasl_challenge_of(
+    alloc: Global,
+    fields: &SpelledList<'_>,
+) -> Result<Perf, Stop<PerfFault>>
+    ensures { Gives parts_of result (perf_in PerfKind.SaslChallenge (trees_of fields.now)) }
 {
-    let perf = SaslChallenge {
-        challenge: needed_binary(alloc, fields, 0)?,
-    };
-    Ok(Perf::SaslChallenge(perf))
+    let challenge = needed_binary(alloc, fields, 0)?;
+    Ok(Perf::SaslChallenge(SaslChallenge { challenge }))
 }
 
 /// What is written of the fields of sasl-challenge.
@@ -98,14 +100,14 @@ pub(crate) fn sasl_challenge_written(alloc: Global, perf: &SaslChallenge) -> Res
 }
 
 /// The fields of sasl-response.
-pub(crate) fn sasl_response_of(alloc: Global, fields: &ValueList) -> Result<Perf, Stop<PerfFault>>
-    ensures { Gives parts_of result
-        (perf_in PerfKind.SaslResponse (trees_of fields.now)) }
+pub(crate) fn sasl_response_of(
+    alloc: Global,
+    fields: &SpelledList<'_>,
+) -> Result<Perf, Stop<PerfFault>>
+    ensures { Gives parts_of result (perf_in PerfKind.SaslResponse (trees_of fields.now)) }
 {
-    let perf = SaslResponse {
-        response: needed_binary(alloc, fields, 0)?,
-    };
-    Ok(Perf::SaslResponse(perf))
+    let response = needed_binary(alloc, fields, 0)?;
+    Ok(Perf::SaslResponse(SaslResponse { response }))
 }
 
 /// What is written of the fields of sasl-response.
@@ -119,15 +121,18 @@ pub(crate) fn sasl_response_written(alloc: Global, perf: &SaslResponse) -> Resul
 }
 
 /// The fields of sasl-outcome.
-pub(crate) fn sasl_outcome_of(alloc: Global, fields: &ValueList) -> Result<Perf, Stop<PerfFault>>
-    ensures { Gives parts_of result
-        (perf_in PerfKind.SaslOutcome (trees_of fields.now)) }
+pub(crate) fn sasl_outcome_of(
+    alloc: Global,
+    fields: &SpelledList<'_>,
+) -> Result<Perf, Stop<PerfFault>>
+    ensures { Gives parts_of result (perf_in PerfKind.SaslOutcome (trees_of fields.now)) }
 {
-    let perf = SaslOutcome {
-        code: needed_ubyte(fields, 0)?,
-        additional_data: binary_at(alloc, fields, 1)?,
-    };
-    Ok(Perf::SaslOutcome(perf))
+    let code = needed_ubyte(alloc, fields, 0)?;
+    let additional_data = binary_at(alloc, fields, 1)?;
+    Ok(Perf::SaslOutcome(SaslOutcome {
+        code,
+        additional_data,
+    }))
 }
 
 /// What is written of the fields of sasl-outcome.

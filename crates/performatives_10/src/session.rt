@@ -12,29 +12,36 @@ ghost use Rattle.performatives_10.specs.Writing.{written, all_added, no_fields};
 
 use crate::collecting::Fields;
 use crate::fault::PerfFault;
-use crate::getting::{error_at, mapping_at, needed_uint, symbols_at, uint_or, ushort_at};
+use crate::getting::{both, error_at, mapping_at, needed_uint, symbols_at, uint_or, ushort_at};
 use crate::kind::PerfKind;
 use crate::performative::{Begin, End, Perf};
 use std::alloc::Global;
-use types_10::ValueList;
+use types_10::SpelledList;
 use wire_base::{Memory, Stop};
 
 /// The fields of begin.
-pub(crate) fn begin_of(alloc: Global, fields: &ValueList) -> Result<Perf, Stop<PerfFault>>
-    ensures { Gives parts_of result
-        (perf_in PerfKind.Begin (trees_of fields.now)) }
+pub(crate) fn begin_of(alloc: Global, fields: &SpelledList<'_>) -> Result<Perf, Stop<PerfFault>>
+    ensures { Gives parts_of result (perf_in PerfKind.Begin (trees_of fields.now)) }
 {
-    let perf = Begin {
-        remote_channel: ushort_at(fields, 0)?,
-        next_outgoing_id: needed_uint(fields, 1)?,
-        incoming_window: needed_uint(fields, 2)?,
-        outgoing_window: needed_uint(fields, 3)?,
-        handle_max: uint_or(fields, 4, u32::MAX)?,
-        offered_capabilities: symbols_at(alloc, fields, 5)?,
-        desired_capabilities: symbols_at(alloc, fields, 6)?,
-        properties: mapping_at(alloc, fields, 7)?,
-    };
-    Ok(Perf::Begin(perf))
+    let remote_channel = ushort_at(alloc, fields, 0)?;
+    let next_outgoing_id = needed_uint(alloc, fields, 1)?;
+    let incoming_window = needed_uint(alloc, fields, 2)?;
+    let outgoing_window = needed_uint(alloc, fields, 3)?;
+    let handle_max = uint_or(alloc, fields, 4, u32::MAX)?;
+    let offered_capabilities = symbols_at(alloc, fields, 5)?;
+    let read = both(offered_capabilities, symbols_at(alloc, fields, 6))?;
+    let read = both(read, mapping_at(alloc, fields, 7))?;
+    let ((offered_capabilities, desired_capabilities), properties) = read;
+    Ok(Perf::Begin(Begin {
+        remote_channel,
+        next_outgoing_id,
+        incoming_window,
+        outgoing_window,
+        handle_max,
+        offered_capabilities,
+        desired_capabilities,
+        properties,
+    }))
 }
 
 /// What is written of the fields of begin.
@@ -48,21 +55,18 @@ pub(crate) fn begin_written(alloc: Global, perf: &Begin) -> Result<Fields, Memor
     fields.uint(perf.incoming_window)?;
     fields.uint(perf.outgoing_window)?;
     fields.uint(perf.handle_max)?;
-    fields.maybe_value(alloc, &perf.offered_capabilities)?;
-    fields.maybe_value(alloc, &perf.desired_capabilities)?;
-    fields.maybe_value(alloc, &perf.properties)?;
+    fields.maybe_kept(alloc, &perf.offered_capabilities)?;
+    fields.maybe_kept(alloc, &perf.desired_capabilities)?;
+    fields.maybe_kept(alloc, &perf.properties)?;
     Ok(fields)
 }
 
 /// The fields of end.
-pub(crate) fn end_of(alloc: Global, fields: &ValueList) -> Result<Perf, Stop<PerfFault>>
-    ensures { Gives parts_of result
-        (perf_in PerfKind.End (trees_of fields.now)) }
+pub(crate) fn end_of(alloc: Global, fields: &SpelledList<'_>) -> Result<Perf, Stop<PerfFault>>
+    ensures { Gives parts_of result (perf_in PerfKind.End (trees_of fields.now)) }
 {
-    let perf = End {
-        error: error_at(alloc, fields, 0)?,
-    };
-    Ok(Perf::End(perf))
+    let error = error_at(alloc, fields, 0)?;
+    Ok(Perf::End(End { error }))
 }
 
 /// What is written of the fields of end.

@@ -88,9 +88,9 @@ pub fn has_text(alloc: Global, perf: &Perf) -> Result<bool, Memory>
 /// default is written. Nulls at the end are left out, and each value has its shortest encoding.
 ///
 /// The list must have a spelling, as `has_text` tells: strings are UTF-8, symbols ASCII, its depth
-/// is at most 16, and it has fewer than 2^32 bytes. That fields of the type `Value10` have the
-/// types of their rows, and that no state is `Received`, is for the caller to see to: without it
-/// other bytes are written than a performative has.
+/// is at most 16, and it has fewer than 2^32 bytes. That fields of the types `Spelling10` and
+/// `Value10` have the types of their rows, and that no state is `Received`, is for the caller to
+/// see to: without it other bytes are written than a performative has.
 ///
 /// # Errors
 ///
