@@ -562,6 +562,29 @@ def values(cases):
 # ---- what is written without memory
 
 
+def nested(count):
+    held = ("uint", 7)
+    for _ in range(count):
+        held = ("list", [held])
+    return held
+
+
+def kept(cases):
+    cases.head("Values that nobody asks for: deep ones, of many elements without bytes, and of many pairs")
+    pairs = ("map", [(("symbol", b"k%d" % k), ("list", [])) for k in range(40)])
+    attach = [("string", b"l"), ("uint", 0), ("boolean", False), NULL, NULL]
+    for held in (nested(11), ("array", [("uint", 0)] * 300), pairs):
+        mapping = ("map", [(("symbol", b"k"), held)])
+        for wide in (False, True):
+            cases.read(text(described(0x10, [("string", b"c")] + [NULL] * 8 + [mapping]), wide))
+            cases.read(text(described(0x11, [NULL] + [("uint", 1)] * 3 + [NULL] * 3 + [mapping]), wide))
+            source = described(0x28, [NULL] * 7 + [mapping, held, held, held])
+            cases.read(text(described(0x12, attach + [source, NULL, mapping]), wide))
+    cases.head("One that is too deep where it stands")
+    source = described(0x28, [NULL] * 7 + [("map", [(("symbol", b"k"), nested(12))])])
+    cases.read(text(described(0x12, attach + [source])))
+
+
 def frame(channel, body):
     """A frame of AMQP without an extended header (AMQP 1.0 2.3)."""
     return (8 + len(body)).to_bytes(4, "big") + b"\2\0" + channel.to_bytes(2, "big") + body
@@ -757,6 +780,7 @@ def main():
         each_kind(cases, name)
     states(cases)
     values(cases)
+    kept(cases)
     settlements(cases)
     frames(cases)
     headers(cases)

@@ -18,6 +18,7 @@
 mod cases;
 mod frames;
 mod perfs;
+mod shown;
 
 use cases::CasesOfPerfs;
 use std::io;

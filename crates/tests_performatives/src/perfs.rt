@@ -1,6 +1,7 @@
 //! Cases of performatives: what is printed of a line.
 
 use crate::frames::{put_frames, put_header};
+use crate::shown::put_shown;
 use performatives_10::{Perf, has_text, put_perf, put_settled, read_perf};
 use std::alloc::Global;
 use tests_support::{bytes_of, part, put_bytes};
@@ -30,7 +31,8 @@ fn put_found(
     perf: &Perf,
     after: usize,
 ) -> Result<(), Memory> {
-    write!(out, "{perf:?} | {after}")?;
+    put_shown(alloc, out, perf)?;
+    write!(out, " | {after}")?;
     put_written(alloc, out, part(bytes, 0, after), perf)
 }
 
