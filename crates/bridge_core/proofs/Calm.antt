@@ -22,7 +22,8 @@ use Rattle.gate_model.specs.Due.{pick, row_on, rows_in, session_rows, settlings,
 use Rattle.gate_model.specs.Due.{takes_memory_on, takes_memory_up, unless_out, up_rows}
 use Rattle.gate_model.specs.Due.{channel_closes, channel_oks, client_rows, client_units, close_oks}
 use Rattle.gate_model.specs.Due.{closes, confirm_on, confirms, contents, if_so, is_beat_due}
-use Rattle.gate_model.specs.Due.{last_closes, may_answer, may_confirm, may_end, may_go, may_return}
+use Rattle.gate_model.specs.Due.{last_closes, may_answer, may_confirm, may_confirm_all, may_confirm_some, may_end, may_go}
+use Rattle.gate_model.specs.Due.{may_return}
 use Rattle.gate_model.specs.Due.{may_tell, openings, refused_on}
 use Rattle.gate_model.specs.Due.{may_idle, other_rows, return_on, takes_memory_back, when}
 use Rattle.gate_model.specs.Lives.{is_carried, life_at, session_in}
@@ -186,7 +187,7 @@ client_light w m =
     (both_are IsLight (if_so (may_answer w) (writings w)) _ (none_so (may_answer w) (writings w) (none_answers w.out_of_memory (is_closing w.conn) m))
     (both_are IsLight (openings p) _ (opening_light p)
     (both_are IsLight (if_so (may_answer w) (answers w)) _ (none_so (may_answer w) (answers w) (none_answers w.out_of_memory (is_closing w.conn) m))
-    (both_are IsLight (if_so (may_answer w || w.by_peer) (confirms w)) _ (if_light (may_answer w || w.by_peer) (confirms w) (λ e. confirming))
+    (both_are IsLight (if_so (may_confirm_some w) (confirms w)) _ (if_light (may_confirm_some w) (confirms w) (λ e. confirming))
     (both_are IsLight (close_oks p) _ (when_is IsLight p.close_ok reply.CloseOk refl)
     (both_are IsLight (if_so (may_end w) (channel_oks w)) _ (if_light (may_end w) (channel_oks w) (λ e. ended))
     (both_are IsLight (last_closes p) _ (both_are IsLight (closes p.close) _ (close_light p.close) (when_is IsLight p.no_memory reply.NoMemory refl))
@@ -197,9 +198,9 @@ client_light w m =
     p = may_go (is_settled w) w.pending
 
     confirming : FirstIs IsLight (confirms w)
-    confirming = each_is IsLight _ w.lives (λ n. both_are IsLight (return_on (not w.out_of_memory && may_confirm (life_at w.lives n)) n (next_return (path_at w.paths n))) _
-        (return_light n (not w.out_of_memory && may_confirm (life_at w.lives n)) (next_return (path_at w.paths n)) (none_out w.out_of_memory _ m))
-        (confirm_light n (may_confirm (life_at w.lives n)) (next_confirm (path_at w.paths n))))
+    confirming = each_is IsLight _ w.lives (λ n. both_are IsLight (return_on (not w.out_of_memory && may_confirm (may_confirm_all w) (life_at w.lives n)) n (next_return (path_at w.paths n))) _
+        (return_light n (not w.out_of_memory && may_confirm (may_confirm_all w) (life_at w.lives n)) (next_return (path_at w.paths n)) (none_out w.out_of_memory _ m))
+        (confirm_light n (may_confirm (may_confirm_all w) (life_at w.lives n)) (next_confirm (path_at w.paths n))))
 
     ended : FirstIs IsLight (channel_oks w)
     ended = each_is IsLight _ w.lives (λ n. both_are IsLight (when (life_at w.lives n).crossed_ok (reply.CrossedOk n)) _

@@ -36,7 +36,7 @@ use Rattle.gate_model.specs.Due.{channel_oks, content_on, contents, may_return, 
 use Rattle.gate_model.specs.Due.{client_rows, client_units, close_behind, close_oks, close_oks_on}
 use Rattle.gate_model.specs.Due.{closes, confirm_on, confirms, detaches, ends, frame_max_in, if_so}
 use Rattle.gate_model.specs.Due.{is_beat_due, is_end_due, last_closes, link_flows, may_answer}
-use Rattle.gate_model.specs.Due.{may_confirm, may_end, may_go, may_tell, none_left, ok_on}
+use Rattle.gate_model.specs.Due.{may_confirm, may_confirm_all, may_confirm_some, may_go_on, may_end, may_go, may_tell, none_left, ok_on}
 use Rattle.gate_model.specs.Due.{open_oks, openings, path_oks, pick, refused_on, row_on, rows_in}
 use Rattle.gate_model.specs.Due.{session_flows, session_rows, settlings, transfers, unless_out}
 use Rattle.gate_model.specs.Due.{may_idle, other_rows, up_rows, when}
@@ -176,9 +176,9 @@ return_is : (w : State) (n : ℕ) (may : Bool) (o : Option NextReturn) → next_
 return_is w n may None e = tt
 return_is w n may (Some r) e = when_is (MayReply w) (may && r.first) (reply.OnChannel n (to_client.Return r)) e
 
-content_is : (w : State) (n : ℕ) (o : Option NextReturn) → next_return (path_at w.paths n) ≡ o → FirstIs (MayReply w) (content_on n o)
-content_is w n None e = tt
-content_is w n (Some r) e = when_is (MayReply w) (not r.first) (reply.OnChannel n (to_client.Return r)) e
+content_is : (w : State) (n : ℕ) (may : Bool) (o : Option NextReturn) → next_return (path_at w.paths n) ≡ o → FirstIs (MayReply w) (content_on may n o)
+content_is w n may None e = tt
+content_is w n may (Some r) e = when_is (MayReply w) (may && not r.first) (reply.OnChannel n (to_client.Return r)) e
 
 confirm_is : (w : State) (n : ℕ) (may : Bool) (o : Option Confirm) → next_confirm (path_at w.paths n) ≡ o → FirstIs (MayReply w) (confirm_on may n o)
 confirm_is w n may None e = tt
@@ -226,11 +226,11 @@ closing_are w =
 
 confirming_are : (w : State) → FirstIs (MayReply w) (confirming_units w)
 confirming_are w =
-    both_are (MayReply w) (if_so (may_answer w || w.by_peer) (confirms w)) _
-    (if_so_is (MayReply w) (may_answer w || w.by_peer) (confirms w)
+    both_are (MayReply w) (if_so (may_confirm_some w) (confirms w)) _
+    (if_so_is (MayReply w) (may_confirm_some w) (confirms w)
     (each_is (MayReply w) _ w.lives (λ n. both_are (MayReply w) (return_on _ n (next_return (path_at w.paths n))) _
-    (return_is w n (not w.out_of_memory && may_confirm (life_at w.lives n)) (next_return (path_at w.paths n)) refl)
-    (confirm_is w n (may_confirm (life_at w.lives n)) (next_confirm (path_at w.paths n)) refl))))
+    (return_is w n (not w.out_of_memory && may_confirm (may_confirm_all w) (life_at w.lives n)) (next_return (path_at w.paths n)) refl)
+    (confirm_is w n (may_confirm (may_confirm_all w) (life_at w.lives n)) (next_confirm (path_at w.paths n)) refl))))
     (closing_are w)
 
 answering_are : (w : State) → FirstIs (MayReply w) (answering_units w)
@@ -244,7 +244,7 @@ client_are w =
     both_are (MayReply w) (client_units w) _
     (both_are (MayReply w) (if_so (may_return w) (contents w)) _
     (if_so_is (MayReply w) (may_return w) (contents w)
-    (each_is (MayReply w) _ w.lives (λ n. content_is w n (next_return (path_at w.paths n)) refl)))
+    (each_is (MayReply w) _ w.lives (λ n. content_is w n (may_go_on (may_confirm_all w) (life_at w.lives n)) (next_return (path_at w.paths n)) refl)))
     (both_are (MayReply w) (if_so (may_answer w) (writings w)) _ (if_so_is (MayReply w) (may_answer w) (writings w) (writings_are w))
     (both_are (MayReply w) (openings (may_go (is_settled w) w.pending)) _ (first_are w (may_go (is_settled w) w.pending)) (answering_are w))))
     (when_is (MayReply w) (is_beat_due w) reply.Heartbeat tt)

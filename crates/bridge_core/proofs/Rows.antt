@@ -177,11 +177,11 @@ writings_more ps k i ls lt = first_more (writings_on ps) no_life k i ls lt
 pub writings_end : (ps : List (Option PathState)) (i : ℕ) (ls : List Life) → drop i ps ≡ drop i no_paths → first (each (writings_on ps) i (drop i ls)) ≡ None
 writings_end ps i ls e = unused_end (writings_on ps) ps i ls e (λ n l none. rw none (either_same l.over []))
 
-pub confirms_end : (calm : Bool) (ps : List (Option PathState)) (i : ℕ) (ls : List Life) → drop i ps ≡ drop i no_paths → first (each (confirms_on calm ps) i (drop i ls)) ≡ None
-confirms_end calm ps i ls e = unused_end (confirms_on calm ps) ps i ls e (λ n l none. rw none refl)
+pub confirms_end : (calm all : Bool) (ps : List (Option PathState)) (i : ℕ) (ls : List Life) → drop i ps ≡ drop i no_paths → first (each (confirms_on calm all ps) i (drop i ls)) ≡ None
+confirms_end calm all ps i ls e = unused_end (confirms_on calm all ps) ps i ls e (λ n l none. rw none refl)
 
-pub contents_end : (ps : List (Option PathState)) (i : ℕ) (ls : List Life) → drop i ps ≡ drop i no_paths → first (each (contents_on ps) i (drop i ls)) ≡ None
-contents_end ps i ls e = unused_end (contents_on ps) ps i ls e (λ n l none. rw none refl)
+pub contents_end : (all : Bool) (ps : List (Option PathState)) (i : ℕ) (ls : List Life) → drop i ps ≡ drop i no_paths → first (each (contents_on all ps) i (drop i ls)) ≡ None
+contents_end all ps i ls e = unused_end (contents_on all ps) ps i ls e (λ n l none. rw none refl)
 
 pub close_oks_more : (settled : Bool) (c : Option Upstream) (k i : ℕ) (ls : List Life) → i < length ls
     → first (each (close_ok_row settled c) k (drop i ls)) ≡ option_or (first (close_ok_row settled c k (life_at ls i))) (first (each (close_ok_row settled c) (k + 1) (drop (i + 1) ls)))

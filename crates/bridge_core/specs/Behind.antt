@@ -1,5 +1,5 @@
 -- The rows of what is due to an end, from each on.
-use Rattle.std.specs.Prelude.{false, true, List, ◌++◌, ◌||◌}
+use Rattle.std.specs.Prelude.{false, true, List, ◌++◌}
 use Rattle.gate_model.specs.declared.outgoing.UpUnit.{UpUnit}
 use Rattle.gate_model.specs.declared.reply.Reply.{Reply}
 use Rattle.gate_model.specs.Due.{begins, channel_closes, channel_oks, close_behind, close_oks}
@@ -7,7 +7,7 @@ use Rattle.gate_model.specs.Due.{answers, confirms, consume_oks, contents, deliv
 use Rattle.gate_model.specs.Due.{gets}
 use Rattle.gate_model.specs.Due.{disposals, writings}
 use Rattle.gate_model.specs.Due.{ends, if_so, last_closes, link_flows, may_answer, may_end, may_go}
-use Rattle.gate_model.specs.Due.{may_return, may_tell, openings}
+use Rattle.gate_model.specs.Due.{may_confirm_some, may_return, may_tell, openings}
 use Rattle.gate_model.specs.Due.{path_oks, session_flows, session_rows, settlings}
 use Rattle.gate_model.specs.Due.{transfers}
 use Rattle.gate_model.specs.State.{State, is_settled}
@@ -24,7 +24,7 @@ abbrev pub closing_units : State → List Reply
 closing_units w = close_oks (may_go (is_settled w) w.pending) ++ ended_units w
 
 abbrev pub confirm_units : State → List Reply
-confirm_units w = if_so (may_answer w || w.by_peer) (confirms w)
+confirm_units w = if_so (may_confirm_some w) (confirms w)
 
 abbrev pub confirming_units : State → List Reply
 confirming_units w = confirm_units w ++ closing_units w

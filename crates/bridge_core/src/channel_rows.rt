@@ -8,6 +8,7 @@ ghost use Rattle.gate_model.specs.Due.{writings_on};
 ghost use Rattle.gate_model.specs.Due.{detach_row};
 ghost use Rattle.gate_model.specs.Due.{flows_on};
 ghost use Rattle.gate_model.specs.Due.{frame_max_in, is_long_ago, link_flow_row, may_confirm};
+ghost use Rattle.gate_model.specs.Due.{may_go_on};
 ghost use Rattle.gate_model.specs.Due.{oks_on, return_on, settle_row, transfer_row};
 ghost use Rattle.gate_model.specs.Lives.{any_life, each, is_begun, is_carried, is_ended};
 ghost use Rattle.gate_model.specs.Lives.{is_free, no_life, session_in};
@@ -303,11 +304,18 @@ pub fn first_ok(lives: &[Life; CHANNELS], paths: &Paths) -> Option<Reply>
     None
 }
 
-/// Confirms may go on a channel.
-fn may_confirm(life: Life) -> bool
-    ensures { result ≡ may_confirm life }
+/// Confirms may go on a channel; `all` says that they may where its life goes on.
+fn may_confirm(all: bool, life: Life) -> bool
+    ensures { result ≡ may_confirm all life }
 {
-    !life.over || life.by_peer
+    if life.over { life.by_peer } else { all }
+}
+
+/// Frames may that go on with a return.
+fn may_go_on(all: bool, life: Life) -> bool
+    ensures { result ≡ may_go_on all life }
+{
+    all || (life.over && life.by_peer)
 }
 
 /// The confirm that goes on a channel, if one may.
@@ -322,9 +330,12 @@ fn confirm_on(may: bool, paths: &Paths, channel: u16) -> Option<Reply>
 }
 
 /// The frame that goes on with a return of a channel.
-fn content_on(paths: &Paths, channel: u16) -> Option<Reply>
-    ensures { result ≡ first (content_on channel (next_return (path_at paths.now channel))) }
+fn content_on(may: bool, paths: &Paths, channel: u16) -> Option<Reply>
+    ensures { result ≡ first (content_on may channel (next_return (path_at paths.now channel))) }
 {
+    if !may {
+        return None;
+    }
     let due = paths.next_return(channel)?;
     if due.first {
         return None;
@@ -334,11 +345,12 @@ fn content_on(paths: &Paths, channel: u16) -> Option<Reply>
 
 /// The first frame that goes on with a return.
 #[tactic(auto, using(crate::proofs::Rows::contents_end))]
-pub fn first_content(lives: &[Life; CHANNELS], paths: &Paths) -> Option<Reply>
-    ensures { result ≡ first (each (contents_on paths.now) 0 lives.now) }
+pub fn first_content(lives: &[Life; CHANNELS], paths: &Paths, all: bool) -> Option<Reply>
+    ensures { result ≡ first (each (contents_on all paths.now) 0 lives.now) }
 {
     for i in 0..paths.top() {
-        if let Some(unit) = content_on(paths, i) {
+        let may = may_go_on(all, lives[i as usize]);
+        if let Some(unit) = content_on(may, paths, i) {
             return Some(unit);
         }
     }
@@ -361,10 +373,10 @@ fn return_on(may: bool, paths: &Paths, channel: u16) -> Option<Reply>
 
 /// The return that begins on a channel, or else the confirm that goes there.
 #[tactic(auto, using(crate::proofs::Firsts::first_some, crate::proofs::Firsts::first_none))]
-fn outcome_on(life: Life, paths: &Paths, channel: u16, calm: bool) -> Option<Reply>
-    ensures { result ≡ first (confirms_on calm paths.now channel life) }
+fn outcome_on(life: Life, paths: &Paths, channel: u16, calm: bool, all: bool) -> Option<Reply>
+    ensures { result ≡ first (confirms_on calm all paths.now channel life) }
 {
-    let may = may_confirm(life);
+    let may = may_confirm(all, life);
     match return_on(calm && may, paths, channel) {
         Some(unit) => Some(unit),
         None => confirm_on(may, paths, channel),
@@ -373,11 +385,16 @@ fn outcome_on(life: Life, paths: &Paths, channel: u16, calm: bool) -> Option<Rep
 
 /// The first return or confirm; `calm` says that the pair didn't run out of memory.
 #[tactic(auto, using(crate::proofs::Rows::confirms_end))]
-pub fn first_confirm(lives: &[Life; CHANNELS], paths: &Paths, calm: bool) -> Option<Reply>
-    ensures { result ≡ first (each (confirms_on calm paths.now) 0 lives.now) }
+pub fn first_confirm(
+    lives: &[Life; CHANNELS],
+    paths: &Paths,
+    calm: bool,
+    all: bool,
+) -> Option<Reply>
+    ensures { result ≡ first (each (confirms_on calm all paths.now) 0 lives.now) }
 {
     for i in 0..paths.top() {
-        if let Some(unit) = outcome_on(lives[i as usize], paths, i, calm) {
+        if let Some(unit) = outcome_on(lives[i as usize], paths, i, calm, all) {
             return Some(unit);
         }
     }

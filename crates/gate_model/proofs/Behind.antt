@@ -19,7 +19,8 @@ use Rattle.gate_model.specs.declared.reply.Reply.TheVariants as reply
 use Rattle.gate_model.specs.Behind.{DeliversBehind, MayDeliver}
 use Rattle.gate_model.specs.Due.{answers, channel_closes, channel_oks, client_rows, client_units, close_oks, close_oks_on, closes, confirm_on, confirms}
 use Rattle.gate_model.specs.Due.{consume_ok_on, consume_oks, consume_oks_on, content_on, contents, delivers, empty_on, get_ok_on, get_on, gets, gets_on, if_so}
-use Rattle.gate_model.specs.Due.{is_beat_due, is_consume_ok, is_empty_ok, is_plain_ok, last_closes, may_answer, may_confirm, may_end, may_go, may_return, may_tell}
+use Rattle.gate_model.specs.Due.{is_beat_due, is_consume_ok, is_empty_ok, is_plain_ok, last_closes, may_answer, may_confirm, may_confirm_all, may_confirm_some, may_end, may_go, may_go_on}
+use Rattle.gate_model.specs.Due.{may_return, may_tell}
 use Rattle.gate_model.specs.Due.{ok_on, oks_on, open_oks, openings, path_oks, refused_on, return_on, when, writing_on, writings}
 use Rattle.gate_model.specs.Lives.{life_at}
 use Rattle.gate_model.specs.Paths.{path_at}
@@ -77,12 +78,12 @@ rests w u d e = all (before_it (client_units w) (when (is_beat_due w) reply.Hear
     p : Pending
     p = may_go (is_settled w) w.pending
 
-    content_other : (n : ℕ) (o : Option NextReturn) → FirstIs Other (content_on n o)
-    content_other n None = tt
-    content_other n (Some r) = when_is Other (not r.first) (reply.OnChannel n (to_client.Return r)) refl
+    content_other : (n : ℕ) (may : Bool) (o : Option NextReturn) → FirstIs Other (content_on may n o)
+    content_other n may None = tt
+    content_other n may (Some r) = when_is Other (may && not r.first) (reply.OnChannel n (to_client.Return r)) refl
 
     contents_other : FirstIs Other (contents w)
-    contents_other = each_is Other _ w.lives (λ n. content_other n (next_return (path_at w.paths n)))
+    contents_other = each_is Other _ w.lives (λ n. content_other n (may_go_on (may_confirm_all w) (life_at w.lives n)) (next_return (path_at w.paths n)))
 
     writing_other : (n : ℕ) (o : Option ContentDue) → FirstIs Other (writing_on n o)
     writing_other n None = tt
@@ -137,8 +138,8 @@ rests w u d e = all (before_it (client_units w) (when (is_beat_due w) reply.Hear
 
     confirms_other : FirstIs Other (confirms w)
     confirms_other =
-        each_is Other _ w.lives (λ n. both_are Other (return_on (not w.out_of_memory && may_confirm (life_at w.lives n)) n (next_return (path_at w.paths n))) _
-        (back_other n _ (next_return (path_at w.paths n))) (confirm_other n (may_confirm (life_at w.lives n)) (next_confirm (path_at w.paths n))))
+        each_is Other _ w.lives (λ n. both_are Other (return_on (not w.out_of_memory && may_confirm (may_confirm_all w) (life_at w.lives n)) n (next_return (path_at w.paths n))) _
+        (back_other n _ (next_return (path_at w.paths n))) (confirm_other n (may_confirm (may_confirm_all w) (life_at w.lives n)) (next_confirm (path_at w.paths n))))
 
     oks_other : (n : ℕ) (settled : Bool) (l : Life) → FirstIs Other (close_oks_on n settled l)
     oks_other n settled l =
@@ -153,10 +154,10 @@ rests w u d e = all (before_it (client_units w) (when (is_beat_due w) reply.Hear
     close_other None = tt
     close_other (Some r) = refl
 
-    behind : FirstIs Other (if_so (may_answer w || w.by_peer) (confirms w)
+    behind : FirstIs Other (if_so (may_confirm_some w) (confirms w)
         ++ (close_oks p ++ (if_so (may_end w) (channel_oks w) ++ (last_closes p ++ if_so (may_tell w) (channel_closes w)))))
     behind =
-        both_are Other (if_so (may_answer w || w.by_peer) (confirms w)) _ (if_other (may_answer w || w.by_peer) (confirms w) confirms_other)
+        both_are Other (if_so (may_confirm_some w) (confirms w)) _ (if_other (may_confirm_some w) (confirms w) confirms_other)
         (both_are Other (close_oks p) _ (when_is Other p.close_ok reply.CloseOk refl)
         (both_are Other (if_so (may_end w) (channel_oks w)) _
         (if_other (may_end w) (channel_oks w) (each_is Other _ w.lives (λ n. oks_other n _ (life_at w.lives n))))

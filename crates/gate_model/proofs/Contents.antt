@@ -24,7 +24,7 @@ use Rattle.session_path.specs.declared.path.DeliverDue.{DeliverDue}
 use Rattle.gate_model.specs.Contents.{Begun, GoesOn, IsBegun, IsContentOn, IsReturnOf, IsReturned}
 use Rattle.gate_model.specs.Contents.{StandTogether, begun_at, begun_in, frames_by, one_more}
 use Rattle.gate_model.specs.Delivers.{Delivers, MayDeliver}
-use Rattle.gate_model.specs.Due.{client_rows, content_on, contents, contents_on, if_so, may_answer, may_return}
+use Rattle.gate_model.specs.Due.{client_rows, content_on, contents, contents_on, if_so, may_answer, may_confirm_all, may_confirm_some, may_end, may_go_on, may_return}
 use Rattle.gate_model.specs.Due.{pick, when, writing_on, writings, writings_on}
 use Rattle.gate_model.specs.Folds.{connection, peers, ran_out_in}
 use Rattle.gate_model.specs.Lives.{life_at}
@@ -320,16 +320,17 @@ record IsBackOn (h : List Step) (u : Reply) : Type 0 where
   later : due.first ≡ false
 
 backs_first : (h : List Step) → FirstIs (IsBackOn h) (contents (before h))
-backs_first h = each_is (IsBackOn h) _ (before h).lives (λ n. by n (next_return (path_at (before h).paths n)) refl)
+backs_first h = each_is (IsBackOn h) _ (before h).lives (λ n. by n (may_go_on (may_confirm_all (before h)) (life_at (before h).lives n)) (next_return (path_at (before h).paths n)) refl)
   where
-    at : (n : ℕ) (r : NextReturn) (b : Bool) → next_return (path_at (before h).paths n) ≡ Some r → r.first ≡ b
-        → FirstIs (IsBackOn h) (when (not b) (reply.OnChannel n (to_client.Return r)))
-    at n r true e f = tt
-    at n r false e f = record { channel = n; due = r; is = refl; next = e; later = f }
+    at : (n : ℕ) (r : NextReturn) (may b : Bool) → next_return (path_at (before h).paths n) ≡ Some r → r.first ≡ b
+        → FirstIs (IsBackOn h) (when (may && not b) (reply.OnChannel n (to_client.Return r)))
+    at n r false b e f = tt
+    at n r true true e f = tt
+    at n r true false e f = record { channel = n; due = r; is = refl; next = e; later = f }
 
-    by : (n : ℕ) (o : Option NextReturn) → next_return (path_at (before h).paths n) ≡ o → FirstIs (IsBackOn h) (content_on n o)
-    by n None e = tt
-    by n (Some r) e = at n r r.first e refl
+    by : (n : ℕ) (may : Bool) (o : Option NextReturn) → next_return (path_at (before h).paths n) ≡ o → FirstIs (IsBackOn h) (content_on may n o)
+    by n may None e = tt
+    by n may (Some r) e = at n r may r.first e refl
 
 record IsFrameOn (h : List Step) (u : Reply) : Type 0 where
   channel : ℕ
@@ -442,15 +443,19 @@ is_calm h n p e = record { open_still = calm; memory = remembers h p calm }
         by false f = refl
 
 -- so the state lets both go
-pub may_back : (h : List Step) → ArePicks h → IsCalm h → may_return (before h) ≡ true
-may_back h p x =
-    ap (λ (a : Bool). not a && (not (is_closing (before h).conn) || (before h).by_peer)) (memory_is (known h p) ∙ x.memory)
-    ∙ ap (λ (b : Bool). not b || (before h).by_peer) (ap is_closing (conn_is (known h p)) ∙ x.open_still)
-
 pub may_write : (h : List Step) → ArePicks h → IsCalm h → may_answer (before h) ≡ true
 may_write h p x =
     ap (λ (a : Bool). not (a || is_closing (before h).conn)) (memory_is (known h p) ∙ x.memory)
     ∙ ap not (ap is_closing (conn_is (known h p)) ∙ x.open_still)
+
+pub may_back : (h : List Step) → ArePicks h → IsCalm h → may_return (before h) ≡ true
+may_back h p x =
+    ap (λ (a : Bool). not a && may_confirm_some (before h)) (memory_is (known h p) ∙ x.memory)
+    ∙ ap (λ (b : Bool). (b || (before h).by_peer) || may_end (before h)) (may_write h p x)
+
+-- and a return that is begun on any channel
+goes_on_now : (h : List Step) (n : ℕ) → ArePicks h → IsCalm h → may_go_on (may_confirm_all (before h)) (life_at (before h).lives n) ≡ true
+goes_on_now h n p x = ap (λ (b : Bool). may_go_on (b || (before h).by_peer) (life_at (before h).lives n)) (may_write h p x)
 
 -- each channel has a life
 pub has_life : (h : List Step) (n : ℕ) → ArePicks h → n ≤ CHANNEL_MAX → n < length (before h).lives
@@ -583,13 +588,15 @@ module _ (frames : ContentIs) (ends : ClosedEnds) (below : BegunBelow) (delivers
       let r = is_later (publishes_of x.life (path_events h n)) number (on_is _ number _ _ _ (returned h n number x.life p x.lives) x.begun x.left) in
       record { due = r.due; is = next_is h n x.life p (back_below h n number p x.begun) x.lives ∙ r.is; later = r.later }
 
-  no_frame_left : (h : List Step) (n number : ℕ) → ArePicks h → contents (before h) ≡ [] → IsReturned h n number → ⊥
-  no_frame_left h n number p none x =
+  no_frame_left : (h : List Step) (n number : ℕ) → ArePicks h → contents (before h) ≡ []
+      → (n ≤ CHANNEL_MAX → may_go_on (may_confirm_all (before h)) (life_at (before h).lives n) ≡ true) → IsReturned h n number → ⊥
+  no_frame_left h n number p none goes x =
       let r = back_due h n number p x in
-      let is : contents_on (before h).paths n (life_at (before h).lives n) ≡ [] =
-      row_none (contents_on (before h).paths) n (before h).lives (has_life h n p (back_below h n number p x.begun)) none in
+      let is : contents_on (may_confirm_all (before h)) (before h).paths n (life_at (before h).lives n) ≡ [] =
+      row_none (contents_on (may_confirm_all (before h)) (before h).paths) n (before h).lives (has_life h n p (back_below h n number p x.begun)) none in
       let one : reply.OnChannel n (to_client.Return r.due) ∷ [] ≡ [] =
-      sym (ap (content_on n) r.is ∙ ap (λ (b : Bool). when (not b) (reply.OnChannel n (to_client.Return r.due))) r.later) ∙ is in cc
+      sym (ap (λ (b : Bool). content_on b n (next_return (path_at (before h).paths n))) (goes (back_below h n number p x.begun))
+      ∙ ap (content_on true n) r.is ∙ ap (λ (b : Bool). when (not b) (reply.OnChannel n (to_client.Return r.due))) r.later) ∙ is in cc
 
   -- and one that is due, but for its first frame, is begun
   due_back : (h : List Step) (n : ℕ) (r : NextReturn) → ArePicks h → next_return (path_at (before h).paths n) ≡ Some r → r.first ≡ false → IsReturned h n r.publish
@@ -687,7 +694,7 @@ module _ (frames : ContentIs) (ends : ClosedEnds) (below : BegunBelow) (delivers
 
       -- one is due
       back_there : (n number : ℕ) → IsReturned h n number → contents w ≡ [] → ⊥
-      back_there n number y none = no_frame_left h n number p none y
+      back_there n number y none = no_frame_left h n number p none (λ least. goes_on_now h n p calm) y
 
       frame_there : (n : ℕ) → IsBegun h n → writings w ≡ [] → ⊥
       frame_there n y none =
@@ -734,8 +741,9 @@ module _ (frames : ContentIs) (ends : ClosedEnds) (below : BegunBelow) (delivers
 
 -- where no row has a frame of a return, none is begun
 pub none_returned : ContentIs → ClosedEnds → BegunBelow → DeliversHold → PublishesAre → ReturnsAre → BacksAre → (h : List Step) → ArePicks h → contents (before h) ≡ []
-    → (n number : ℕ) → IsReturned h n number → ⊥
-none_returned frames ends below delivers publishes returns texts h p none n number x = no_frame_left frames ends below delivers publishes returns texts h n number p none x
+    → (n number : ℕ) → (n ≤ CHANNEL_MAX → may_go_on (may_confirm_all (before h)) (life_at (before h).lives n) ≡ true) → IsReturned h n number → ⊥
+none_returned frames ends below delivers publishes returns texts h p none n number goes x =
+    no_frame_left frames ends below delivers publishes returns texts h n number p none goes x
 
 pub stand_together : ContentIs → ClosedEnds → BegunBelow → DeliversHold → PublishesAre → ReturnsAre → BacksAre → (h : List Step) → ArePicks h → StandTogether h
 stand_together frames ends below delivers publishes returns texts h p = together frames ends below delivers publishes returns texts h p

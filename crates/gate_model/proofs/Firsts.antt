@@ -38,7 +38,7 @@ use Rattle.gate_model.specs.Due.{empty_on, get_ok_on, get_on, gets, is_empty_ok,
 use Rattle.gate_model.specs.Due.{client_rows, client_units, close_behind, close_oks, close_oks_on}
 use Rattle.gate_model.specs.Due.{closes, confirm_on, confirms, detaches, ends, frame_max_in, if_so}
 use Rattle.gate_model.specs.Due.{is_beat_due, is_end_due, last_closes, link_flows, may_answer}
-use Rattle.gate_model.specs.Due.{may_confirm, may_end, may_go, may_tell, none_left, ok_on, open_oks}
+use Rattle.gate_model.specs.Due.{may_confirm, may_confirm_all, may_confirm_some, may_end, may_go_on, may_go, may_tell, none_left, ok_on, open_oks}
 use Rattle.gate_model.specs.Due.{openings, path_oks, pick, refused_on, row_on, rows_in}
 use Rattle.gate_model.specs.Due.{session_flows, session_rows, settlings, transfers, unless_out, may_idle, other_rows, up_rows, when}
 use Rattle.gate_model.specs.Lives.{each, is_carried, is_free as is_free_session, life_at, session_in}
@@ -268,12 +268,12 @@ client_rows_are Q w us =
     return_is n may None e = tt
     return_is n may (Some r) e = when_is P (may && r.first) (reply.OnChannel n (to_client.Return r)) (us.back n r e)
 
-    content_is : (n : ℕ) (o : Option NextReturn) → next_return (path_at w.paths n) ≡ o → FirstIs P (content_on n o)
-    content_is n None e = tt
-    content_is n (Some r) e = when_is P (not r.first) (reply.OnChannel n (to_client.Return r)) (us.back n r e)
+    content_is : (n : ℕ) (may : Bool) (o : Option NextReturn) → next_return (path_at w.paths n) ≡ o → FirstIs P (content_on may n o)
+    content_is n may None e = tt
+    content_is n may (Some r) e = when_is P (may && not r.first) (reply.OnChannel n (to_client.Return r)) (us.back n r e)
 
     going_on : FirstIs P (contents w)
-    going_on = each_is P _ w.lives (λ n. content_is n (next_return (path_at w.paths n)) refl)
+    going_on = each_is P _ w.lives (λ n. content_is n (may_go_on (may_confirm_all w) (life_at w.lives n)) (next_return (path_at w.paths n)) refl)
 
     ok_is : (n : ℕ) (settled : Bool) (l : Life) → FirstIs P (close_oks_on n settled l)
     ok_is n settled l = both_are P (when l.crossed_ok (reply.CrossedOk n)) _ (when_is P l.crossed_ok (reply.CrossedOk n) tt) (when_is P settled (reply.ChannelCloseOk n) tt)
@@ -294,14 +294,14 @@ client_rows_are Q w us =
         (both_are P (last_closes p) _ (both_are P (closes p.close) _ (close_is p.close) (when_is P p.no_memory reply.NoMemory tt))
         (if_so_is P (may_tell w) (channel_closes w) (each_is P _ w.lives (λ n. refusal_is n (is_channel_settled w n) (life_at w.lives n).close)))))
 
-    confirming : FirstIs P (if_so (may_answer w || w.by_peer) (confirms w)
+    confirming : FirstIs P (if_so (may_confirm_some w) (confirms w)
         ++ (close_oks p ++ (if_so (may_end w) (channel_oks w) ++ (last_closes p ++ if_so (may_tell w) (channel_closes w)))))
     confirming =
-        both_are P (if_so (may_answer w || w.by_peer) (confirms w)) _
-        (if_so_is P (may_answer w || w.by_peer) (confirms w)
-        (each_is P _ w.lives (λ n. both_are P (return_on (not w.out_of_memory && may_confirm (life_at w.lives n)) n (next_return (path_at w.paths n))) _
-        (return_is n (not w.out_of_memory && may_confirm (life_at w.lives n)) (next_return (path_at w.paths n)) refl)
-        (confirm_is n (may_confirm (life_at w.lives n)) (next_confirm (path_at w.paths n)) refl))))
+        both_are P (if_so (may_confirm_some w) (confirms w)) _
+        (if_so_is P (may_confirm_some w) (confirms w)
+        (each_is P _ w.lives (λ n. both_are P (return_on (not w.out_of_memory && may_confirm (may_confirm_all w) (life_at w.lives n)) n (next_return (path_at w.paths n))) _
+        (return_is n (not w.out_of_memory && may_confirm (may_confirm_all w) (life_at w.lives n)) (next_return (path_at w.paths n)) refl)
+        (confirm_is n (may_confirm (may_confirm_all w) (life_at w.lives n)) (next_confirm (path_at w.paths n)) refl))))
         closing
 
 -- ---- the unit that goes

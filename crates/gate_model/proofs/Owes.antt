@@ -1,27 +1,28 @@
 -- Where nothing goes to a client, it is owed no channel.open-ok, no channel.close and no close-ok, and no reply of its connection.
-use Rattle.std.proofs.Common.{◌≡◌, ◌⊎◌, ℕ, ◌+◌, ◌==◌, ◌<◌, not, ◌&&◌, ◌||◌, Bool, true, false, if◌then◌else◌, List, [], ◌∷◌, ◌++◌, append-nil}
-use Rattle.std.proofs.Common.{Option, None, Some, is_some, refl, sym, ap, ◌∙◌, subst}
+use Rattle.std.proofs.Common.{◌≡◌, ◌⊎◌, ℕ, ◌+◌, ◌==◌, ◌<◌, ◌≤◌, not, ◌&&◌, ◌||◌, Bool, true, false, if◌then◌else◌, List, [], ◌∷◌, ◌++◌, append-nil}
+use Rattle.std.proofs.Common.{Option, None, Some, is_some, refl, sym, ap, ◌∙◌, arith, subst}
 use Rattle.std.specs.List.{AllByRecursion}
 use Rattle.gate_outside.specs.declared.ports.End.TheVariants.{Client}
 use Rattle.gate_relay.specs.Sides.{is_readable}
 use Rattle.gate_relay.specs.declared.sides.Side.{Side}
 use Rattle.machine_091.specs.State.{is_closing, is_open}
+use Rattle.machine_091.specs.declared.limits.TheConstants.{CHANNEL_MAX}
 use Rattle.machine_091.specs.declared.state.Connection.{Connection}
 use Rattle.machine_091.specs.declared.unit.Refusal.{Refusal}
 use Rattle.machine_10.specs.declared.state.Upstream.{Upstream}
 use Rattle.gate_model.specs.Answers.{AreReplies}
 use Rattle.gate_model.specs.Begins.{begun_at, has_begun, said_or}
-use Rattle.gate_model.specs.Closes.{tells_close}
+use Rattle.gate_model.specs.Closes.{closes_since, tells_close}
 use Rattle.gate_model.specs.Contents.{IsReturned}
 use Rattle.gate_model.specs.Due.{answers, channel_closes, channel_oks, client_rows, client_units, close_oks, close_oks_on, closes, confirms, contents, delivers, gets}
-use Rattle.gate_model.specs.Due.{consume_oks, if_so, is_closed_phase, last_closes, may_answer, may_end, may_go, may_return, may_tell, open_oks, openings, path_oks, pick}
+use Rattle.gate_model.specs.Due.{consume_oks, if_so, is_closed_phase, last_closes, may_answer, may_confirm_all, may_confirm_some, may_end, may_go, may_go_on, may_return, may_tell, open_oks, openings, path_oks, pick}
 use Rattle.gate_model.specs.Due.{refused_on, rows, when, writings}
 use Rattle.gate_model.specs.Folds.{answers_of, connection, peers, ran_out_in, replies, sent, sent_since, until_memory}
 use Rattle.gate_model.specs.Lives.{is_done, life_at, session_in, with_life}
 use Rattle.gate_model.specs.Once.{is_open_ok_on}
 use Rattle.gate_model.specs.Owes.{EndsClients, IsReplied, MayEnd, OwesNone, closes_channel, has_opened, is_crossed_ok}
 use Rattle.gate_model.specs.Owes.{is_own_ok, is_to_answer, is_to_close, is_to_cross, tells}
-use Rattle.gate_model.specs.Parting.{ended_by_container}
+use Rattle.gate_model.specs.Parting.{by_container, ended_by_container}
 use Rattle.gate_model.specs.Picks.{ArePicks}
 use Rattle.gate_model.specs.Publishing.{opens_channel, path_life}
 use Rattle.gate_model.specs.Reasons.{is_close_on, reason_at}
@@ -46,13 +47,12 @@ use Rattle.gate_model.proofs.Contents.{BegunBelow, ClosedEnds, ContentIs, Delive
 use Rattle.gate_model.proofs.Fates.{PublishesAre}
 use Rattle.gate_model.proofs.Known.{Known, conn_is, container_is, known, memory_is, side_is, silent_is}
 use Rattle.gate_model.proofs.Living.{step_leaves, was_open}
-use Rattle.gate_model.proofs.Owing.{still_tells}
+use Rattle.gate_model.proofs.Owing.{closed_goes, goes_with, may_end_now, tells_all}
 use Rattle.gate_model.proofs.Places.{Beyond, Elsewhere, Here, SetAt, itself, set_at}
 use Rattle.gate_model.proofs.Rests.{if_so_none, none_in, when_none}
 use Rattle.gate_model.proofs.Rows.{left_none, right_none, row_none}
 use Rattle.gate_model.proofs.Said.{answered}
 use Rattle.gate_model.proofs.Staying.{long}
-use Rattle.gate_model.proofs.Times.{sends}
 
 -- ---- a unit that goes to the client leaves what is due but for itself
 
@@ -362,7 +362,7 @@ no_row w e = record {
     ended = if_so (may_end w) (channel_oks w) ++ closed
 
     confirmed : List Reply
-    confirmed = if_so (may_answer w || w.by_peer) (confirms w) ++ (close_oks (pending_in w) ++ ended)
+    confirmed = if_so (may_confirm_some w) (confirms w) ++ (close_oks (pending_in w) ++ ended)
 
     answered : List Reply
     answered = if_so (may_answer w) (answers w)
@@ -379,7 +379,7 @@ no_row w e = record {
     behind = right_none (openings (pending_in w)) (answered ++ confirmed) opened
 
     confirms_none : close_oks (pending_in w) ++ ended ≡ []
-    confirms_none = right_none (if_so (may_answer w || w.by_peer) (confirms w)) (close_oks (pending_in w) ++ ended) (right_none answered confirmed behind)
+    confirms_none = right_none (if_so (may_confirm_some w) (confirms w)) (close_oks (pending_in w) ++ ended) (right_none answered confirmed behind)
 
     ends_none : ended ≡ []
     ends_none = right_none (close_oks (pending_in w)) ended confirms_none
@@ -402,12 +402,6 @@ refused_none false n (Some r) e f = absurd cc
 unless_true : (b : Bool) → (b ≡ true → ⊥) → b ≡ false
 unless_true true f = absurd (f refl)
 unless_true false f = refl
-
-may_end_now : (h : List Step) → ArePicks h → MayEnd h → may_end (before h) ≡ true
-may_end_now h p m =
-    ap (λ (b : Bool). not (b || ((before h).sent_last.close || (before h).sent_last.close_ok))) (memory_is (known h p) ∙ m.memory)
-    ∙ ap (λ (b : Bool). not (b || (before h).sent_last.close_ok)) ((sends h p).close_is ∙ m.unclosed)
-    ∙ ap not ((sends h p).close_ok_is ∙ m.unanswered)
 
 owes_none : (h : List Step) (n : ℕ) → n < 256 → ArePicks h → NoRow (before h) → OwesNone h n
 owes_none h n less p none = record {
@@ -532,14 +526,30 @@ replied h p none = record {
 module _ (frames : ContentIs) (ends : ClosedEnds) (begun : BegunBelow) (delivers : DeliversHold) (publishes : PublishesAre) (returned : ReturnsAre) (texts : BacksAre) where
   none_goes_back : (h : List Step) → ArePicks h → NoRow (before h) → ran_out_in h ≡ false → (is_closing (connection h) ≡ false) ⊎ (ended_by_container h ≡ true)
       → (n number : ℕ) → IsReturned h n number → ⊥
-  none_goes_back h p none memory on =
-      none_returned frames ends begun delivers publishes returned texts h p (if_so_none (may_return (before h)) (contents (before h)) may none.content)
+  none_goes_back h p none memory on n number =
+      none_returned frames ends begun delivers publishes returned texts h p (if_so_none (may_return (before h)) (contents (before h)) may none.content) n number
+      (λ least. ap (λ (b : Bool). may_go_on b (life_at (before h).lives n)) all)
     where
+      all : may_confirm_all (before h) ≡ true
+      all = tells_all h p memory on
+
       may : may_return (before h) ≡ true
-      may = ap (λ (b : Bool). not b && (not (is_closing (before h).conn) || (before h).by_peer)) (memory_is (known h p) ∙ memory) ∙ still_tells h p on
+      may = ap (λ (b : Bool). not b && may_confirm_some (before h)) (memory_is (known h p) ∙ memory) ∙ ap (λ (b : Bool). b || may_end (before h)) all
+
+  none_parted : (h : List Step) → ArePicks h → NoRow (before h) → MayEnd h → (n number : ℕ) → by_container h n ≡ true → closes_since n h ≡ 0
+      → IsReturned h n number → ⊥
+  none_parted h p none m n number c z x =
+      none_returned frames ends begun delivers publishes returned texts h p (if_so_none (may_return (before h)) (contents (before h)) may none.content) n number
+      (λ least. goes_with _ (life_at (before h).lives n) (closed_goes h n (below least) p (ap is_some x.lives) z c)) x
+    where
+      below : n ≤ CHANNEL_MAX → n < 256
+      below least = let most : CHANNEL_MAX ≡ 255 = refl in omega (arith, least, most)
+
+      may : may_return (before h) ≡ true
+      may = ap (λ (b : Bool). not b && may_confirm_some (before h)) (memory_is (known h p) ∙ m.memory) ∙ or_right (may_confirm_all (before h)) _ (may_end_now h p m)
 
   pub ends_clients : (h : List Step) → ArePicks h → EndsClients h
-  ends_clients h p e = record { channels = λ n less. owes_none h n less p none; connection = replied h p none; returns = none_goes_back h p none }
+  ends_clients h p e = record { channels = λ n less. owes_none h n less p none; connection = replied h p none; returns = none_goes_back h p none; parted = none_parted h p none }
     where
       none : NoRow (before h)
       none = no_row (before h) e

@@ -1,7 +1,7 @@
 -- What is owed for publishes goes on a channel that its container closed, until the gateway's channel.close goes.
 use Rattle.property_map.specs.declared.told.Told.{Told}
 use Rattle.std.proofs.Common.{◌≡◌, ◌⊎◌, inl, inr, ℕ, ◌+◌, ◌==◌, ◌<◌, ◌≤◌, not, ◌&&◌, ◌||◌, Bool, true, false, if◌then◌else◌, List, [], ◌∷◌, ◌++◌, length}
-use Rattle.std.proofs.Common.{Option, None, Some, refl, sym, ap, ◌∙◌, arith, subst}
+use Rattle.std.proofs.Common.{Option, None, Some, is_some, refl, sym, ap, ◌∙◌, arith, subst}
 use Rattle.close_translate.specs.Conditions.{condition_of}
 use Rattle.close_translate.specs.declared.codes.TheConstants.{INTERNAL_ERROR}
 use Rattle.gate_outside.specs.declared.ports.End.TheVariants.{Client, Up}
@@ -38,10 +38,11 @@ use Rattle.gate_model.specs.declared.reply.Reply.{Reply}
 use Rattle.gate_model.specs.declared.reply.Reply.TheVariants as reply
 use Rattle.gate_model.specs.Closes.{closes_since, tells_close}
 use Rattle.gate_model.specs.Due.{answers, client_rows, client_units, confirm_on, confirms, confirms_on, contents, contents_on, if_so, may_answer}
-use Rattle.gate_model.specs.Due.{may_confirm, may_return, openings, pick, return_on, writings}
+use Rattle.gate_model.specs.Due.{may_confirm, may_confirm_all, may_confirm_some, may_end, may_go_on, may_return, openings, pick, return_on, writings}
 use Rattle.gate_model.specs.Folds.{connection, paths_in, ran_out_in, routes_in}
 use Rattle.gate_model.specs.Lives.{begun_life, each, failed_life, freed_life, is_of_channel, life_at, lives_by, method_life, no_lives, reason_of, refusal_on, with_life}
 use Rattle.gate_model.specs.Once.{is_channel_open, is_method_on, one_if}
+use Rattle.gate_model.specs.Owes.{MayEnd}
 use Rattle.gate_model.specs.Parting.{IsCalledFor, by_container, ended_by_container, is_containers}
 use Rattle.gate_model.specs.Paths.{closed_path, path_at}
 use Rattle.gate_model.specs.Picks.{ArePicks}
@@ -54,26 +55,27 @@ use Rattle.gate_model.specs.State.{fail, failed, is_limit_reached, left, life_fa
 use Rattle.gate_model.specs.State.{session_lost, sessions_lost, want_in, windowed, with_meaning, with_session, without_begin, without_life}
 use Rattle.gate_model.specs.Upstream.{channel_max_of, heard_up, meaning_by}
 use Rattle.gate_model.proofs.Backs.{ReturnsAre}
-use Rattle.gate_model.proofs.Basics.{and_none}
+use Rattle.gate_model.proofs.Basics.{or_right}
 use Rattle.gate_model.proofs.Channels.{client_opens}
 use Rattle.gate_model.proofs.Clear.{free_at, freed_at, freed_turns, open_at, told_at, told_turns, want_is}
 use Rattle.gate_model.proofs.Connections.{clash, closing_only, opened_runs}
-use Rattle.gate_model.proofs.Contents.{BegunBelow, ContentIs, has_life}
+use Rattle.gate_model.proofs.Contents.{BegunBelow, ContentIs, has_life, is_calm, may_write}
 use Rattle.gate_model.proofs.Delivers.{GlobalsAre, TagsAre}
 use Rattle.gate_model.proofs.Fates.{PublishesAre, path_of}
 use Rattle.gate_model.proofs.Freeing.{IsAnswered, client_frees}
 use Rattle.gate_model.proofs.Known.{conn_is, known, memory_is}
 use Rattle.gate_model.proofs.Lives.{set_all}
 use Rattle.gate_model.proofs.Outcomes.{Asking, Calls, Outcome, only_closing, outcome}
-use Rattle.gate_model.proofs.Overs.{Freed, freed, inside}
+use Rattle.gate_model.proofs.Overs.{Freed, freed, goes_on, inside}
 use Rattle.gate_model.proofs.Places.{itself}
 use Rattle.gate_model.proofs.Refusing.{StandsOpen, client_stands}
 use Rattle.gate_model.proofs.Reports.{DeliveriesAre}
-use Rattle.gate_model.proofs.Rests.{DueAre, LivesBelow, MostAre, OfferedAre, all_back, if_so_none, last_rows, later, no_confirm, no_return, no_some, none_in}
+use Rattle.gate_model.proofs.Rests.{DueAre, LivesBelow, MostAre, OfferedAre, all_back, confirms_are, going_on, if_so_none, last_rows, later, no_confirm, no_return, no_some, none_in}
 use Rattle.gate_model.proofs.Rests.{opening, served}
 use Rattle.gate_model.proofs.Rows.{left_none, right_none, row_none}
 use Rattle.gate_model.proofs.Sessions.{session_cases}
-use Rattle.gate_model.proofs.Staying.{Other, Set, This, long, set_in}
+use Rattle.gate_model.proofs.Staying.{Other, Set, StandsIn, This, long, over_by, set_in, stands}
+use Rattle.gate_model.proofs.Times.{sends}
 use Rattle.gate_model.proofs.Turning.{client_turns, closing_turns, method_turns, refused_turns, turned_by}
 
 -- ---- the life of a channel that its container closed
@@ -500,6 +502,55 @@ still_tells h p (inr e) = by (is_closing (before h).conn) (before h).by_peer (en
     by true b f = f
     by false b f = refl
 
+tells_all : (h : List Step) → ArePicks h → ran_out_in h ≡ false → (is_closing (connection h) ≡ false) ⊎ (ended_by_container h ≡ true) → may_confirm_all (before h) ≡ true
+tells_all h p memory on = ap (λ (b : Bool). not (b || is_closing (before h).conn) || (before h).by_peer) (memory_is (known h p) ∙ memory) ∙ still_tells h p on
+
+-- or no connection.close and no close-ok was sent whole
+pub may_end_now : (h : List Step) → ArePicks h → MayEnd h → may_end (before h) ≡ true
+may_end_now h p m =
+    ap (λ (b : Bool). not (b || ((before h).sent_last.close || (before h).sent_last.close_ok))) (memory_is (known h p) ∙ m.memory)
+    ∙ ap (λ (b : Bool). not (b || (before h).sent_last.close_ok)) ((sends h p).close_is ∙ m.unclosed)
+    ∙ ap not ((sends h p).close_ok_is ∙ m.unanswered)
+
+tells_some : (h : List Step) → ArePicks h → ran_out_in h ≡ false → (is_closing (connection h) ≡ false) ⊎ ((ended_by_container h ≡ true) ⊎ MayEnd h)
+    → may_confirm_some (before h) ≡ true
+tells_some h p memory (inl on) = ap (λ (b : Bool). b || may_end (before h)) (tells_all h p memory (inl on))
+tells_some h p memory (inr (inl on)) = ap (λ (b : Bool). b || may_end (before h)) (tells_all h p memory (inr on))
+tells_some h p memory (inr (inr m)) = or_right (may_confirm_all (before h)) _ (may_end_now h p m)
+
+-- what is owed for publishes of a channel that the container closed may go
+pub closed_goes : (h : List Step) (n : ℕ) → n < 256 → ArePicks h → is_some (path_life h n) ≡ true → closes_since n h ≡ 0 → by_container h n ≡ true
+    → may_confirm (may_confirm_all (before h)) (life_at (before h).lives n) ≡ true
+closed_goes h n less p there none c = by (channel_at (before h).conn n) (holds n h less p)
+  where
+    l : Life
+    l = life_at (before h).lives n
+
+    all : Bool
+    all = may_confirm_all (before h)
+
+    s : StandsIn n h
+    s = stands n h less p there
+
+    peer : l.by_peer ≡ true → may_confirm all l ≡ true
+    peer e = ap (λ (b : Bool). if b then l.by_peer else all) (over_by _ _ _ l _ s e) ∙ e
+
+    by : (x : Channel91) → Holds (closes_since n h) (by_container h n) x l → may_confirm all l ≡ true
+    by channel.Free x = peer (x none c)
+    by channel.Open x = ap (λ (b : Bool). if b then l.by_peer else all) x ∙ or_right (may_answer (before h)) _ (s.only x c)
+    by channel.Closing x = peer (x none c)
+    by channel.Told x = absurd (omega (arith, x, none))
+
+-- and so may the rest of a return that is begun
+pub goes_with : (all : Bool) (l : Life) → may_confirm all l ≡ true → may_go_on all l ≡ true
+goes_with all l e = by l.over l.by_peer all e
+  where
+    by : (o b a : Bool) → (if o then b else a) ≡ true → (a || (o && b)) ≡ true
+    by o b true f = refl
+    by true true false f = refl
+    by true false false f = absurd cc
+    by false b false f = absurd cc
+
 -- ---- what is owed to the client
 
 -- nothing is owed for publishes where the row may go and none goes
@@ -507,15 +558,20 @@ record IsQuiet (w : State) (n : ℕ) : Type 0 where
   return : next_return (path_at w.paths n) ≡ None
   confirm : next_confirm (path_at w.paths n) ≡ None
 
-silent : (h : List Step) (n : ℕ) → ArePicks h → n ≤ CHANNEL_MAX → (before h).out_of_memory ≡ false → may_return (before h) ≡ true → (may_answer (before h) || (before h).by_peer) ≡ true
-    → may_confirm (life_at (before h).lives n) ≡ true → pick (before h) Client ≡ None → IsQuiet (before h) n
-silent h n p below memory backs may can e = record {
-  return = no_return n (next_return (path_at w.paths n)) (at (contents_on w.paths) (if_so_none (may_return w) (contents w) backs (left_none cs _ units))) (left_none _ _ told);
+silent : (h : List Step) (n : ℕ) → ArePicks h → n ≤ CHANNEL_MAX → (before h).out_of_memory ≡ false → may_confirm_some (before h) ≡ true
+    → may_confirm (may_confirm_all (before h)) (life_at (before h).lives n) ≡ true → pick (before h) Client ≡ None → IsQuiet (before h) n
+silent h n p below memory some can e = record {
+  return = no_return n (next_return (path_at w.paths n))
+      (going_on n w (goes_with (may_confirm_all w) (life_at w.lives n) can) (at (contents_on (may_confirm_all w) w.paths) (if_so_none (may_return w) (contents w) backs (left_none cs _ units))))
+      (left_none _ _ told);
   confirm = no_confirm n (next_confirm (path_at w.paths n)) (right_none (return_on true n (next_return (path_at w.paths n))) _ told);
 }
   where
     w : State
     w = before h
+
+    backs : may_return (before h) ≡ true
+    backs = ap (λ (b : Bool). not b && may_confirm_some (before h)) memory ∙ some
 
     cs : List Reply
     cs = if_so (may_return (before h)) (contents (before h))
@@ -532,43 +588,26 @@ silent h n p below memory backs may can e = record {
         (right_none (openings (opening h)) (if_so (may_answer (before h)) (answers (before h)) ++ later h)
         (right_none (if_so (may_answer (before h)) (writings (before h))) (openings (opening h) ++ (if_so (may_answer (before h)) (answers (before h)) ++ later h)) (right_none cs _ units)))
 
-    row : confirms_on (not (before h).out_of_memory) (before h).paths n (life_at (before h).lives n) ≡ []
-    row = at (confirms_on (not (before h).out_of_memory) (before h).paths) (if_so_none (may_answer (before h) || (before h).by_peer) (confirms (before h)) may (left_none (if_so (may_answer (before h) || (before h).by_peer) (confirms (before h))) (last_rows h) behind))
+    row : confirms_on (not (before h).out_of_memory) (may_confirm_all (before h)) (before h).paths n (life_at (before h).lives n) ≡ []
+    row =
+        at (confirms_on (not (before h).out_of_memory) (may_confirm_all (before h)) (before h).paths)
+        (if_so_none (may_confirm_some (before h)) (confirms (before h)) some (left_none (if_so (may_confirm_some (before h)) (confirms (before h))) (last_rows h) behind))
 
     told : return_on true n (next_return (path_at (before h).paths n)) ++ confirm_on true n (next_confirm (path_at (before h).paths n)) ≡ []
-    told =
-        sym (ap (λ (b : Bool). return_on (not b && may_confirm (life_at (before h).lives n)) n (next_return (path_at (before h).paths n))
-        ++ confirm_on (may_confirm (life_at (before h).lives n)) n (next_confirm (path_at (before h).paths n))) memory
-        ∙ ap (λ (b : Bool). return_on b n (next_return (path_at (before h).paths n)) ++ confirm_on b n (next_confirm (path_at (before h).paths n))) can) ∙ row
+    told = sym (confirms_are n (before h) memory can) ∙ row
 
 -- what is owed for publishes of such a channel may go
-can_tell : (h : List Step) (n : ℕ) → n < 256 → ArePicks h → IsToTell h n → may_confirm (life_at (before h).lives n) ≡ true
-can_tell h n less p t = by (channel_at w.conn n) refl t.called (holds n h less p)
+can_tell : (h : List Step) (n life : ℕ) → n < 256 → ArePicks h → path_life h n ≡ Some life → IsToTell h n → may_confirm (may_confirm_all (before h)) (life_at (before h).lives n) ≡ true
+can_tell h n life less p l t = by t.called
   where
-    w : State
-    w = before h
+    least : n ≤ CHANNEL_MAX
+    least = let all : CHANNEL_MAX ≡ 255 = refl in omega (arith, less, all)
 
-    l : Life
-    l = life_at w.lives n
-
-    peer : l.by_peer ≡ true → may_confirm l ≡ true
-    peer e = either l.over l.by_peer e
-      where
-        either : (o b : Bool) → b ≡ true → (not o || b) ≡ true
-        either true b f = f
-        either false b f = refl
-
-    on : (s : Channel91) → channel_at w.conn n ≡ s → is_open_channel s ≡ false → IsCalledFor h n → by_container h n ≡ true
-    on s e off (inl o) =
-        absurd (clash (is_open (connection h) n) o
-        (ap (λ (c : Connection). is_open c n) (sym (conn_is (known h p))) ∙ and_none (is_running w.conn.phase) _ (ap is_open_channel e ∙ off)))
-    on s e off (inr b) = b
-
-    by : (s : Channel91) → channel_at w.conn n ≡ s → IsCalledFor h n → Holds (closes_since n h) (by_container h n) s l → may_confirm l ≡ true
-    by channel.Free e c x = peer (x t.unclosed (on channel.Free e refl c))
-    by channel.Open e c x = ap (λ (b : Bool). not b || l.by_peer) x
-    by channel.Closing e c x = peer (x t.unclosed (on channel.Closing e refl c))
-    by channel.Told e c x = let none : closes_since n h ≡ 0 = t.unclosed in absurd (omega (arith, x, none))
+    by : IsCalledFor h n → may_confirm (may_confirm_all (before h)) (life_at (before h).lives n) ≡ true
+    by (inl on) =
+        ap (λ (b : Bool). if b then (life_at (before h).lives n).by_peer else may_confirm_all (before h)) (goes_on h n p least (ap is_some l) on)
+        ∙ ap (λ (b : Bool). b || (before h).by_peer) (may_write h p (is_calm h n p on))
+    by (inr c) = closed_goes h n less p (ap is_some l) t.unclosed c
 
 module _ (publishes : PublishesAre) (offered : OfferedAre) (returns : ReturnsAre) (most : MostAre) (below : LivesBelow) where
   told : (h : List Step) (n life : ℕ) → ArePicks h → path_life h n ≡ Some life → IsToTell h n → pick (before h) Client ≡ None → IsTold h n life
@@ -597,17 +636,8 @@ module _ (publishes : PublishesAre) (offered : OfferedAre) (returns : ReturnsAre
       memory : (before h).out_of_memory ≡ false
       memory = memory_is (known h p) ∙ t.memory
 
-      doing : (not (is_closing (before h).conn) || (before h).by_peer) ≡ true
-      doing = still_tells h p t.connection
-
-      may : (may_answer (before h) || (before h).by_peer) ≡ true
-      may = ap (λ (b : Bool). not (b || is_closing (before h).conn) || (before h).by_peer) memory ∙ doing
-
-      returning : may_return (before h) ≡ true
-      returning = ap (λ (b : Bool). not b && (not (is_closing (before h).conn) || (before h).by_peer)) memory ∙ doing
-
       q : IsQuiet (before h) n
-      q = silent h n p (below h n life l) memory returning may (can_tell h n less p t) e
+      q = silent h n p (below h n life l) memory (tells_some h p t.memory t.connection) (can_tell h n life less p l t) e
 
       backs : return_by (publishes_of life (path_events h n)) ≡ None
       backs =

@@ -37,7 +37,7 @@ use Rattle.gate_model.specs.Due.{answers, carried_rows, client_rows, client_unit
 use Rattle.gate_model.specs.Due.{content_on, contents}
 use Rattle.gate_model.specs.Due.{contents_on, deliver_on, delivers, delivers_on, disposals, channel_closes, channel_oks, close_oks, consume_ok_on}
 use Rattle.gate_model.specs.Due.{empty_on, get_ok_on, get_on, last_closes, gets, gets_on, if_so, is_consume_ok, is_empty_ok, is_plain_ok}
-use Rattle.gate_model.specs.Due.{may_answer, may_confirm, may_end, may_go, may_return, may_tell, ok_on, oks_on, open_oks, openings, other_rows}
+use Rattle.gate_model.specs.Due.{may_answer, may_confirm, may_confirm_all, may_confirm_some, may_end, may_go, may_go_on, may_return, may_tell, ok_on, oks_on, open_oks, openings, other_rows}
 use Rattle.gate_model.specs.Due.{path_oks, pick, return_on, row_on, rows_in, session_rows, unless_out, up_rows, when}
 use Rattle.gate_model.specs.Due.{attaches, begins, detaches, ends, link_flows, session_flows, settlings, transfers, writing_on, writings, writings_on}
 use Rattle.gate_model.specs.Folds.{carrying, connection, container, ran_out_in, sent_up, side_in}
@@ -111,11 +111,11 @@ no_some (Some x) e f = cc
 -- ---- what goes to the client
 
 -- a return is neither to go on nor to begin
-pub no_return : (n : ℕ) (o : Option NextReturn) → content_on n o ≡ [] → return_on true n o ≡ [] → o ≡ None
+pub no_return : (n : ℕ) (o : Option NextReturn) → content_on true n o ≡ [] → return_on true n o ≡ [] → o ≡ None
 no_return n None e f = refl
-no_return n (Some r) e f = absurd (both r.first (when_none (not r.first) _ e) (when_none (true && r.first) _ f))
+no_return n (Some r) e f = absurd (both r.first (when_none (true && not r.first) _ e) (when_none (true && r.first) _ f))
   where
-    both : (b : Bool) → not b ≡ false → (true && b) ≡ false → ⊥
+    both : (b : Bool) → (true && not b) ≡ false → (true && b) ≡ false → ⊥
     both true g h = cc
     both false g h = cc
 
@@ -150,14 +150,19 @@ last_rows h =
     ++ (last_closes (opening h) ++ if_so (may_tell (before h)) (channel_closes (before h))))
 
 abbrev pub later : List Step → List Reply
-later h = if_so (may_answer (before h) || (before h).by_peer) (confirms (before h)) ++ last_rows h
+later h = if_so (may_confirm_some (before h)) (confirms (before h)) ++ last_rows h
 
-confirms_are : (n : ℕ) (w : State) → w.out_of_memory ≡ false → (life_at w.lives n).over ≡ false
-    → confirms_on (not w.out_of_memory) w.paths n (life_at w.lives n)
+pub confirms_are : (n : ℕ) (w : State) → w.out_of_memory ≡ false → may_confirm (may_confirm_all w) (life_at w.lives n) ≡ true
+    → confirms_on (not w.out_of_memory) (may_confirm_all w) w.paths n (life_at w.lives n)
     ≡ return_on true n (next_return (path_at w.paths n)) ++ confirm_on true n (next_confirm (path_at w.paths n))
-confirms_are n w memory over =
-    ap (λ (b : Bool). return_on (not b && may_confirm (life_at w.lives n)) n (next_return (path_at w.paths n)) ++ confirm_on (may_confirm (life_at w.lives n)) n (next_confirm (path_at w.paths n))) memory
-    ∙ ap (λ (b : Bool). return_on (not b || (life_at w.lives n).by_peer) n (next_return (path_at w.paths n)) ++ confirm_on (not b || (life_at w.lives n).by_peer) n (next_confirm (path_at w.paths n))) over
+confirms_are n w memory can =
+    ap (λ (b : Bool). return_on (not b && may_confirm (may_confirm_all w) (life_at w.lives n)) n (next_return (path_at w.paths n)) ++ confirm_on (may_confirm (may_confirm_all w) (life_at w.lives n)) n (next_confirm (path_at w.paths n))) memory
+    ∙ ap (λ (b : Bool). return_on b n (next_return (path_at w.paths n)) ++ confirm_on b n (next_confirm (path_at w.paths n))) can
+
+-- nothing of a return that is begun
+pub going_on : (n : ℕ) (w : State) → may_go_on (may_confirm_all w) (life_at w.lives n) ≡ true → contents_on (may_confirm_all w) w.paths n (life_at w.lives n) ≡ []
+    → content_on true n (next_return (path_at w.paths n)) ≡ []
+going_on n w may none = sym (ap (λ (b : Bool). content_on b n (next_return (path_at w.paths n))) may) ∙ none
 
 -- what a channel that is open has in the rows
 record Silent (w : State) (n : ℕ) : Type 0 where
@@ -170,7 +175,7 @@ record Silent (w : State) (n : ℕ) : Type 0 where
 silent : (h : List Step) (n life : ℕ) → ArePicks h → n ≤ CHANNEL_MAX → path_life h n ≡ Some life → is_open (connection h) n ≡ true
     → pick (before h) Client ≡ None → Silent (before h) n
 silent h n life p below l on e = record {
-  return = no_return n (next_return (path_at w.paths n)) (at (contents_on w.paths) (if_so_none (may_return w) (contents w) backs (left_none cs _ units))) (left_none _ _ told);
+  return = no_return n (next_return (path_at w.paths n)) (going_on n w goes_all (at (contents_on (may_confirm_all w) w.paths) (if_so_none (may_return w) (contents w) backs (left_none cs _ units)))) (left_none _ _ told);
   confirm = no_confirm n (next_confirm (path_at w.paths n)) (right_none (return_on true n (next_return (path_at w.paths n))) _ told);
   content = no_content n (next_content (path_at w.paths n)) (unless_none (life_at w.lives n).over _ over (at (writings_on w.paths) writes_none));
   deliver = no_deliver n (next_deliver (path_at w.paths n)) (right_none (empty_on n (next_ok (path_at w.paths n))) _ got)
@@ -230,14 +235,23 @@ silent h n life p below l on e = record {
     got : empty_on n (next_ok (path_at (before h).paths n)) ++ get_ok_on n (next_deliver (path_at (before h).paths n)) ≡ []
     got = unless_none (life_at (before h).lives n).over (get_on n (path_at (before h).paths n)) over (at (gets_on (before h).paths) (left_none (gets (before h)) (delivers (before h)) behind_consumes))
 
-    may_tell_all : (may_answer (before h) || (before h).by_peer) ≡ true
-    may_tell_all = ap (λ (b : Bool). b || (before h).by_peer) writes
+    all : may_confirm_all (before h) ≡ true
+    all = ap (λ (b : Bool). b || (before h).by_peer) writes
+
+    may_tell_all : may_confirm_some (before h) ≡ true
+    may_tell_all = ap (λ (b : Bool). b || may_end (before h)) all
+
+    goes_all : may_go_on (may_confirm_all (before h)) (life_at (before h).lives n) ≡ true
+    goes_all = ap (λ (b : Bool). may_go_on b (life_at (before h).lives n)) all
+
+    can : may_confirm (may_confirm_all (before h)) (life_at (before h).lives n) ≡ true
+    can = ap (λ (b : Bool). if b then (life_at (before h).lives n).by_peer else may_confirm_all (before h)) over ∙ all
 
     told : return_on true n (next_return (path_at (before h).paths n)) ++ confirm_on true n (next_confirm (path_at (before h).paths n)) ≡ []
-    told = sym (confirms_are n (before h) (memory_is (known h p) ∙ calm.memory) over)
-        ∙ at (confirms_on (not (before h).out_of_memory) (before h).paths)
-        (if_so_none (may_answer (before h) || (before h).by_peer) (confirms (before h)) may_tell_all
-        (left_none (if_so (may_answer (before h) || (before h).by_peer) (confirms (before h))) (last_rows h) (right_none (if_so (may_answer (before h)) (answers (before h))) (later h) behind)))
+    told = sym (confirms_are n (before h) (memory_is (known h p) ∙ calm.memory) can)
+        ∙ at (confirms_on (not (before h).out_of_memory) (may_confirm_all (before h)) (before h).paths)
+        (if_so_none (may_confirm_some (before h)) (confirms (before h)) may_tell_all
+        (left_none (if_so (may_confirm_some (before h)) (confirms (before h))) (last_rows h) (right_none (if_so (may_answer (before h)) (answers (before h))) (later h) behind)))
 
 -- ---- what is owed to the client
 

@@ -37,7 +37,7 @@ use Rattle.gate_model.specs.declared.reply.Reply.{Reply}
 use Rattle.gate_model.specs.declared.reply.Reply.TheVariants as reply
 use Rattle.gate_model.specs.Answers.{AreAnswered, AreReplies, is_close, is_close_ok, last_units}
 use Rattle.gate_model.specs.Due.{channel_closes, channel_oks, client_units, close_oks, close_oks_on}
-use Rattle.gate_model.specs.Due.{contents, may_return, content_on, return_on, may_confirm}
+use Rattle.gate_model.specs.Due.{contents, may_return, content_on, return_on, may_confirm, may_confirm_all, may_confirm_some, may_go_on}
 use Rattle.gate_model.specs.Due.{closes, confirm_on, confirms, if_so, ok_on, path_oks, is_beat_due}
 use Rattle.gate_model.specs.Due.{last_closes, may_answer, may_end, may_go, may_tell, open_oks}
 use Rattle.gate_model.specs.Due.{openings, pick, refused_on, rows, when, is_awaiting, is_silent}
@@ -214,11 +214,11 @@ unless_over true rs x = tt
 unless_over false rs x = x
 
 contents_open : (w : State) → FirstIs IsOpen (contents w)
-contents_open w = each_is IsOpen _ w.lives (λ n. by n (next_return (path_at w.paths n)))
+contents_open w = each_is IsOpen _ w.lives (λ n. by n (may_go_on (may_confirm_all w) (life_at w.lives n)) (next_return (path_at w.paths n)))
   where
-    by : (n : ℕ) (o : Option NextReturn) → FirstIs IsOpen (content_on n o)
-    by n None = tt
-    by n (Some r) = when_is IsOpen (not r.first) (reply.OnChannel n (told_unit.Return r)) (on_open n (told_unit.Return r))
+    by : (n : ℕ) (may : Bool) (o : Option NextReturn) → FirstIs IsOpen (content_on may n o)
+    by n may None = tt
+    by n may (Some r) = when_is IsOpen (may && not r.first) (reply.OnChannel n (told_unit.Return r)) (on_open n (told_unit.Return r))
 
 writings_open : (w : State) → FirstIs IsOpen (writings w)
 writings_open w = each_is IsOpen _ w.lives (λ n. unless_over (life_at w.lives n).over _ (by n (next_content (path_at w.paths n))))
@@ -261,8 +261,8 @@ gets_open w = each_is IsOpen _ w.lives (λ n. unless_over (life_at w.lives n).ov
 
 confirms_open : (w : State) → FirstIs IsOpen (confirms w)
 confirms_open w =
-    each_is IsOpen _ w.lives (λ n. both_are IsOpen _ _ (back n (not w.out_of_memory && may_confirm (life_at w.lives n)) (next_return (path_at w.paths n)))
-    (by n (may_confirm (life_at w.lives n)) (next_confirm (path_at w.paths n))))
+    each_is IsOpen _ w.lives (λ n. both_are IsOpen _ _ (back n (not w.out_of_memory && may_confirm (may_confirm_all w) (life_at w.lives n)) (next_return (path_at w.paths n)))
+    (by n (may_confirm (may_confirm_all w) (life_at w.lives n)) (next_confirm (path_at w.paths n))))
   where
     back : (n : ℕ) (may : Bool) (o : Option NextReturn) → FirstIs IsOpen (return_on may n o)
     back n may None = tt
@@ -309,7 +309,7 @@ units_first w r e = zero_ (has contents_)
     answers_ = if_so (may_answer w) (answers w)
 
     confirms_ : List Reply
-    confirms_ = if_so (may_answer w || w.by_peer) (confirms w)
+    confirms_ = if_so (may_confirm_some w) (confirms w)
 
     ends : List Reply
     ends = if_so (may_end w) (channel_oks w)
@@ -349,7 +349,7 @@ units_first w r e = zero_ (has contents_)
         → (first (rows p) ≡ Some r) ⊎ IsOfChannel w r
     confirming a f (HasFirst u g) =
         let is : u ≡ r = same_first (first (confirms_ ++ (close_oks p ++ (ends ++ (last_closes p ++ closes_))))) u r (first_some confirms_ _ u g) f in
-        inr (InOpen (is_first IsOpen (confirms w) r (confirms_open w) (in_if (may_answer w || w.by_peer) (confirms w) r (g ∙ ap Some is))))
+        inr (InOpen (is_first IsOpen (confirms w) r (confirms_open w) (in_if (may_confirm_some w) (confirms w) r (g ∙ ap Some is))))
     confirming a f (HasNone g) = two a (sym (first_none confirms_ _ g) ∙ f) (has (close_oks p))
 
     behind : openings p ≡ [] → first rest ≡ Some r → Has answers_ → (first (rows p) ≡ Some r) ⊎ IsOfChannel w r

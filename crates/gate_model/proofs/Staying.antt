@@ -72,10 +72,10 @@ data Moves (x o o' k k' q q' : Bool) (l m : Life) : Type 0 where
   Stays : o' ≡ o → q' ≡ q → Alike l m → Moves x o o' k k' q q' l m
   -- the client or the gateway closes it, or the connection
   Shuts : o' ≡ false → q' ≡ q → m.over ≡ true → (m.by_peer ≡ true → l.by_peer ≡ true) → Moves x o o' k k' q q' l m
-  Ends : o' ≡ false → k' ≡ true → q' ≡ q → Alike l m → Moves x o o' k k' q q' l m
+  Ends : x ≡ false → o' ≡ false → k' ≡ true → q' ≡ q → Alike l m → Moves x o o' k k' q q' l m
   -- the container does
   Fails : o ≡ true → o' ≡ false → x ≡ true → q' ≡ q → m.over ≡ true → Moves x o o' k k' q q' l m
-  Falls : k ≡ false → o' ≡ false → k' ≡ true → x ≡ true → Alike l m → Moves x o o' k k' q q' l m
+  Falls : k ≡ false → o' ≡ false → k' ≡ true → x ≡ true → q' ≡ true → Alike l m → Moves x o o' k k' q q' l m
 
 -- ---- what holds of a channel with a life
 
@@ -84,6 +84,7 @@ pub record Stands (o k q : Bool) (l : Life) (b : Bool) : Type 0 where
   pub fresh : l.over ≡ false → l.by_peer ≡ false
   pub peer : l.by_peer ≡ true → b ≡ true
   pub all : l.over ≡ false → q ≡ true → b ≡ true
+  pub only : l.over ≡ false → b ≡ true → q ≡ true
 
 -- of any channel with a life
 record Shut (o k q : Bool) (l : Life) : Type 0 where
@@ -96,13 +97,26 @@ kept x o true b e f g = absurd cc
 kept x true false b e f g = absurd cc
 kept x false false b e f g = g
 
+-- one that was open, or that no step of the container closed, was closed before
+stayed : (x o o' b : Bool) → o' ≡ o → (if o' then false else (if o then x else b)) ≡ true → b ≡ true
+stayed x true true b e f = absurd cc
+stayed x true false b e f = absurd cc
+stayed x false true b e f = absurd cc
+stayed x false false b e f = f
+
+ended : (x o o' b : Bool) → x ≡ false → o' ≡ false → (if o' then false else (if o then x else b)) ≡ true → b ≡ true
+ended true o o' b z e f = absurd cc
+ended false o true b z e f = absurd cc
+ended false true false b z e f = absurd cc
+ended false false false b z e f = f
+
 told : (x o o' b : Bool) → o' ≡ false → o ≡ true → x ≡ true → (if o' then false else (if o then x else b)) ≡ true
 told x o true b e f g = absurd cc
 told x false false b e f g = absurd cc
 told x true false b e f g = g
 
 -- one by the container is over
-over_by : (o k q : Bool) (l : Life) (b : Bool) → Stands o k q l b → l.by_peer ≡ true → l.over ≡ true
+pub over_by : (o k q : Bool) (l : Life) (b : Bool) → Stands o k q l b → l.by_peer ≡ true → l.over ≡ true
 over_by o k q l b s e = by l.over refl
   where
     by : (v : Bool) → l.over ≡ v → v ≡ true
@@ -120,30 +134,35 @@ moved x o o' k k' q q' l m b (Stays e f a) on t s = record {
   fresh = λ v. a.peer ∙ s.fresh (sym a.over ∙ v);
   peer = λ v. let was = sym a.peer ∙ v in let off = t.over (over_by o k q l b s was) in kept x o o' b (e ∙ off) off (s.peer was);
   all = λ v w. let was = sym f ∙ w in let off = t.closing (t.peer was) in kept x o o' b (e ∙ off) off (s.all (sym a.over ∙ v) was);
+  only = λ v w. f ∙ s.only (sym a.over ∙ v) (stayed x o o' b e w);
 }
 moved x o o' k k' q q' l m b (Shuts e f v g) on t s = record {
   goes = λ w c. absurd (clash _ v w);
   fresh = λ w. absurd (clash _ v w);
   peer = λ w. let was = g w in kept x o o' b e (t.over (over_by o k q l b s was)) (s.peer was);
   all = λ w z. absurd (clash _ v w);
+  only = λ w z. absurd (clash _ v w);
 }
-moved x o o' k k' q q' l m b (Ends e c f a) on t s = record {
+moved x o o' k k' q q' l m b (Ends y e c f a) on t s = record {
   goes = λ v d. absurd (clash _ c d);
   fresh = λ v. a.peer ∙ s.fresh (sym a.over ∙ v);
   peer = λ v. let was = sym a.peer ∙ v in kept x o o' b e (t.over (over_by o k q l b s was)) (s.peer was);
   all = λ v w. let was = sym f ∙ w in kept x o o' b e (t.closing (t.peer was)) (s.all (sym a.over ∙ v) was);
+  only = λ v w. f ∙ s.only (sym a.over ∙ v) (ended x o o' b y e w);
 }
 moved x o o' k k' q q' l m b (Fails e g c f v) on t s = record {
   goes = λ w d. absurd (clash _ v w);
   fresh = λ w. absurd (clash _ v w);
   peer = λ w. told x o o' b g e c;
   all = λ w z. absurd (clash _ v w);
+  only = λ w z. absurd (clash _ v w);
 }
-moved x o o' k k' q q' l m b (Falls n e c y a) on t s = record {
+moved x o o' k k' q q' l m b (Falls n e c y f a) on t s = record {
   goes = λ v d. absurd (clash _ c d);
   fresh = λ v. a.peer ∙ s.fresh (sym a.over ∙ v);
   peer = λ v. let was = sym a.peer ∙ v in kept x o o' b e (t.over (over_by o k q l b s was)) (s.peer was);
   all = λ v w. told x o o' b e (s.goes (sym a.over ∙ v) n) y;
+  only = λ v w. f;
 }
 
 -- ---- lives
@@ -214,7 +233,7 @@ want_moves n ms told (want.ChannelCloseOk j) ls o o' k k' q less is free ends no
     by : Set n j ls (freed_life (life_at ls j)) → Moves false o o' k k' q q (life_at ls n) (life_at (with_life j (freed_life (life_at ls j)) ls) n)
     by (This e f) = Shuts (is ∙ free e) refl (ap (λ (z : Life). z.over) f) (λ p. let wrong : false ≡ true = sym (ap (λ (z : Life). z.by_peer) f) ∙ p in absurd cc)
     by (Other d f) = Stays is refl (alike _ _ f)
-want_moves n ms told want.Close ls o o' k k' q less is free ends none = Ends is (ends refl) refl (alike _ _ refl)
+want_moves n ms told want.Close ls o o' k k' q less is free ends none = Ends refl is (ends refl) refl (alike _ _ refl)
 want_moves n ms told (want.Refuse r) ls o o' k k' q less is free ends none = by (is_of_channel r) refl
   where
     new : Life
@@ -228,7 +247,7 @@ want_moves n ms told (want.Refuse r) ls o o' k k' q less is free ends none = by 
 
     by : (b : Bool) → is_of_channel r ≡ b → Moves false o o' k k' q q (life_at ls n) (life_at (if b then with_life r.channel new ls else ls) n)
     by true e = one (is ∙ ap (λ (b : Bool). if b then (if r.channel == n then false else o) else false) e) (set_in n r.channel ls new less)
-    by false e = Ends (is ∙ ap (λ (b : Bool). if b then (if r.channel == n then false else o) else false) e) (ends (ap not e)) refl (alike _ _ refl)
+    by false e = Ends refl (is ∙ ap (λ (b : Bool). if b then (if r.channel == n then false else o) else false) e) (ends (ap not e)) refl (alike _ _ refl)
 want_moves n ms told y ls o o' k k' q less is free ends none = Stays is refl (alike _ _ refl)
 
 -- ---- of a state
@@ -257,7 +276,7 @@ fail_moves n code why w v e c q a = by (is_closing v.conn) refl
   where
     by : (b : Bool) → is_closing v.conn ≡ b → MovesIn true n w (if b then sessions_lost v else failed code why v)
     by true f = Stays e q a
-    by false f = Falls (sym c ∙ f) (none_open n (close v.conn) (close_closes v.conn.phase)) (close_closes v.conn.phase) refl a
+    by false f = Falls (sym c ∙ f) (none_open n (close v.conn) (close_closes v.conn.phase)) (close_closes v.conn.phase) refl refl a
 
 -- the container closes one channel
 fail_one : (n g code : ℕ) (why : Option Condition) (f : PathState → PathState) (w v : State) → n < length w.conn.channels → n < length v.lives → v.conn ≡ w.conn
@@ -350,7 +369,7 @@ begun_alike n u ls = alike _ _ refl
 
 -- the client's end is taken up, or the pair runs out of memory
 leaves : (n : ℕ) (w v : State) → is_closing v.conn ≡ true → v.by_peer ≡ w.by_peer → Alike (life_at w.lives n) (life_at v.lives n) → MovesIn false n w v
-leaves n w v c q a = Ends (none_open n v.conn c) c q a
+leaves n w v c q a = Ends refl (none_open n v.conn c) c q a
 
 still : (x : Bool) (n : ℕ) (w : State) → MovesIn x n w w
 still x n w = Stays refl refl (alike _ _ refl)
@@ -366,7 +385,7 @@ step_moves n (Moment ms) h less p there none = by (is_limit_reached (before h).c
 
     by : (b : Bool) → Moves false (is_open (before h).conn n) (is_open (after b) n) (is_closing (before h).conn) (is_closing (after b)) (before h).by_peer (before h).by_peer
         (life_at (before h).lives n) (life_at (before h).lives n)
-    by true = Ends (none_open n (close (before h).conn) (close_closes (before h).conn.phase)) (close_closes (before h).conn.phase) refl (alike _ _ refl)
+    by true = Ends refl (none_open n (close (before h).conn) (close_closes (before h).conn.phase)) (close_closes (before h).conn.phase) refl (alike _ _ refl)
     by false = Stays refl refl (alike _ _ refl)
 step_moves n (Fed Client) h less p there none = Stays refl refl (alike _ _ refl)
 step_moves n (Silent Client) h less p there none = leaves n (before h) (before (Silent Client ∷ h)) refl refl (alike _ _ refl)
@@ -581,6 +600,8 @@ stands n (s ∷ h) less p there = by (stands n h less p.1) (opens_channel n h s)
       fresh = λ v. o.life.peer;
       peer = λ v. absurd (clash _ v o.life.peer);
       all = λ v q. absurd (clash _ o.open_is (none_open n (before (s ∷ h)).conn (peer_closes (s ∷ h) p q)));
+      only = λ v b. absurd (clash _ b (is
+          ∙ ap (λ (i : Bool). if i then false else (if is_open (before h).conn n then is_containers s else by_container h n)) o.open_is));
     }
 
     by : (is_some (path_life h n) ≡ true → StandsIn n h) → (b : Bool) → opens_channel n h s ≡ b

@@ -23,7 +23,8 @@ use Rattle.gate_model.specs.declared.reply.Reply.{Reply}
 use Rattle.gate_model.specs.declared.reply.Reply.TheVariants as reply
 use Rattle.gate_model.specs.Due.{answers, channel_closes, channel_oks, client_rows, client_units, close_oks, close_oks_on, closes, confirm_on, confirms}
 use Rattle.gate_model.specs.Due.{consume_ok_on, consume_oks, content_on, contents, deliver_on, delivers, empty_on, get_ok_on, get_on, gets, if_so, is_beat_due}
-use Rattle.gate_model.specs.Due.{is_consume_ok, is_empty_ok, is_plain_ok, last_closes, may_answer, may_confirm, may_end, may_go, may_return, may_tell}
+use Rattle.gate_model.specs.Due.{is_consume_ok, is_empty_ok, is_plain_ok, last_closes, may_answer, may_confirm, may_confirm_all, may_confirm_some, may_end, may_go, may_go_on}
+use Rattle.gate_model.specs.Due.{may_return, may_tell}
 use Rattle.gate_model.specs.Due.{ok_on, open_oks, openings, path_oks, refused_on, return_on, when, writing_on, writings}
 use Rattle.gate_model.specs.Folds.{connection, paths_in, peers, ran_out_in, routes_in}
 use Rattle.gate_model.specs.Lives.{life_at}
@@ -52,8 +53,7 @@ pub record Answers (w : State) (n : ℕ) : Type 0 where
 
 -- what is owed for publishes is of such a one, or of one that the container closed
 pub record Owed (w : State) (n : ℕ) : Type 0 where
-  may : (may_answer w || w.by_peer) ≡ true
-  can : may_confirm (life_at w.lives n) ≡ true
+  can : may_confirm (may_confirm_all w) (life_at w.lives n) ≡ true
   there : is_some (slot_at w.paths n) ≡ true
 
 abbrev pub GoesOn : State → ℕ → ChannelUnit → Type 0
@@ -112,16 +112,17 @@ rows_go w =
         both_are P _ _ (when_is P p.protocol reply.Protocol tt)
         (both_are P _ _ (when_is P p.start reply.Start tt) (both_are P _ _ (when_is P p.tune reply.Tune tt) (when_is P p.open_ok reply.OpenOk tt)))
 
-    content_is : (n : ℕ) (o : Option NextReturn) → FirstIs P (content_on n o)
-    content_is n None = tt
-    content_is n (Some r) = when_by P (not r.first) (reply.OnChannel n (to_client.Return r)) (λ e f. absurd (clash _ f (not_so r.first e)))
+    content_is : (n : ℕ) (may : Bool) (o : Option NextReturn) → FirstIs P (content_on may n o)
+    content_is n may None = tt
+    content_is n may (Some r) =
+        when_by P (may && not r.first) (reply.OnChannel n (to_client.Return r)) (λ e f. absurd (clash _ f (not_so r.first (and_right may _ e))))
       where
         not_so : (b : Bool) → not b ≡ true → b ≡ false
         not_so true e = absurd cc
         not_so false e = refl
 
     going_on : FirstIs P (contents w)
-    going_on = each_is P _ w.lives (λ n. content_is n (next_return (path_at w.paths n)))
+    going_on = each_is P _ w.lives (λ n. content_is n (may_go_on (may_confirm_all w) (life_at w.lives n)) (next_return (path_at w.paths n)))
 
     here : may_answer w ≡ true → (n : ℕ) → (life_at w.lives n).over ≡ false → is_some (slot_at w.paths n) ≡ true → Answers w n
     here may n o t = record { may = may; goes = o; there = t }
@@ -185,31 +186,30 @@ rows_go w =
         (both_are P (last_closes p) _ (both_are P (closes p.close) _ (close_is p.close) (when_is P p.no_memory reply.NoMemory tt))
         (if_so_by P (may_tell w) (channel_closes w) (λ e. each_is P _ w.lives (λ n. refusal_is n (is_channel_settled w n) (life_at w.lives n).close)))))
 
-    confirm_is : (may_answer w || w.by_peer) ≡ true → (n : ℕ) (o : Option Confirm) → next_confirm (path_at w.paths n) ≡ o → FirstIs P (confirm_on (may_confirm (life_at w.lives n)) n o)
-    confirm_is may n None e = tt
-    confirm_is may n (Some c) e =
-        when_by P (may_confirm (life_at w.lives n)) (reply.OnChannel n (to_client.Confirm c))
-        (λ can. record { may = may; can = can; there = there_by next_confirm w.paths n c refl e })
+    confirm_is : (n : ℕ) (o : Option Confirm) → next_confirm (path_at w.paths n) ≡ o → FirstIs P (confirm_on (may_confirm (may_confirm_all w) (life_at w.lives n)) n o)
+    confirm_is n None e = tt
+    confirm_is n (Some c) e =
+        when_by P (may_confirm (may_confirm_all w) (life_at w.lives n)) (reply.OnChannel n (to_client.Confirm c))
+        (λ can. record { can = can; there = there_by next_confirm w.paths n c refl e })
 
-    return_is : (may_answer w || w.by_peer) ≡ true → (n : ℕ) (o : Option NextReturn) → next_return (path_at w.paths n) ≡ o
-        → FirstIs P (return_on (not w.out_of_memory && may_confirm (life_at w.lives n)) n o)
-    return_is may n None e = tt
-    return_is may n (Some r) e =
-        when_by P ((not w.out_of_memory && may_confirm (life_at w.lives n)) && r.first) (reply.OnChannel n (to_client.Return r))
+    return_is : (n : ℕ) (o : Option NextReturn) → next_return (path_at w.paths n) ≡ o
+        → FirstIs P (return_on (not w.out_of_memory && may_confirm (may_confirm_all w) (life_at w.lives n)) n o)
+    return_is n None e = tt
+    return_is n (Some r) e =
+        when_by P ((not w.out_of_memory && may_confirm (may_confirm_all w) (life_at w.lives n)) && r.first) (reply.OnChannel n (to_client.Return r))
         (λ can f. record {
-          may = may;
-          can = and_right (not w.out_of_memory) _ (and_left (not w.out_of_memory && may_confirm (life_at w.lives n)) _ can);
+          can = and_right (not w.out_of_memory) _ (and_left (not w.out_of_memory && may_confirm (may_confirm_all w) (life_at w.lives n)) _ can);
           there = there_by next_return w.paths n r refl e;
         })
 
-    confirming : FirstIs P (if_so (may_answer w || w.by_peer) (confirms w)
+    confirming : FirstIs P (if_so (may_confirm_some w) (confirms w)
         ++ (close_oks p ++ (if_so (may_end w) (channel_oks w) ++ (last_closes p ++ if_so (may_tell w) (channel_closes w)))))
     confirming =
-        both_are P (if_so (may_answer w || w.by_peer) (confirms w)) _
-        (if_so_by P (may_answer w || w.by_peer) (confirms w)
-        (λ may. each_is P _ w.lives (λ n. both_are P (return_on (not w.out_of_memory && may_confirm (life_at w.lives n)) n (next_return (path_at w.paths n))) _
-        (return_is may n (next_return (path_at w.paths n)) refl)
-        (confirm_is may n (next_confirm (path_at w.paths n)) refl))))
+        both_are P (if_so (may_confirm_some w) (confirms w)) _
+        (if_so_by P (may_confirm_some w) (confirms w)
+        (λ e. each_is P _ w.lives (λ n. both_are P (return_on (not w.out_of_memory && may_confirm (may_confirm_all w) (life_at w.lives n)) n (next_return (path_at w.paths n))) _
+        (return_is n (next_return (path_at w.paths n)) refl)
+        (confirm_is n (next_confirm (path_at w.paths n)) refl))))
         closing
 
 -- ---- so the channel is open, or its container closed it
@@ -253,9 +253,11 @@ owed h n p a = by (life_at (before h).lives n).over refl (is_closing (before h).
     s : StandsIn n h
     s = stands n h t.below p t.lives
 
-    second : (x b : Bool) → x ≡ true → (not x || b) ≡ true → b ≡ true
-    second true b e f = f
-    second false b e f = absurd cc
+    at : (o b all : Bool) → (if o then b else all) ≡ true → (v : Bool) → o ≡ v → (if v then b else all) ≡ true
+    at o b all e v f = sym (ap (λ (x : Bool). if x then b else all) f) ∙ e
+
+    can : (v : Bool) → (life_at (before h).lives n).over ≡ v → (if v then (life_at (before h).lives n).by_peer else may_confirm_all (before h)) ≡ true
+    can = at (life_at (before h).lives n).over (life_at (before h).lives n).by_peer (may_confirm_all (before h)) a.can
 
     peers_doing : (out k q : Bool) → k ≡ true → (not (out || k) || q) ≡ true → q ≡ true
     peers_doing true true q e f = f
@@ -263,8 +265,8 @@ owed h n p a = by (life_at (before h).lives n).over refl (is_closing (before h).
     peers_doing out false q e f = absurd cc
 
     by : (v : Bool) → (life_at (before h).lives n).over ≡ v → (k : Bool) → is_closing (before h).conn ≡ k → IsCalledFor h n
-    by true e k f = inr (s.peer (second _ _ e a.can))
-    by false e true f = inr (s.all e (peers_doing (before h).out_of_memory (is_closing (before h).conn) (before h).by_peer f a.may))
+    by true e k f = inr (s.peer (can true e))
+    by false e true f = inr (s.all e (peers_doing (before h).out_of_memory (is_closing (before h).conn) (before h).by_peer f (can false e)))
     by false e false f = inl (open_by h n p (s.goes e f))
 
 -- a channel.open was taken up in the life in progress, or before it

@@ -231,40 +231,54 @@ writings_on ps n l = if l.over then [] else writing_on n (next_content (path_at 
 abbrev pub writings : State → List Reply
 writings w = each (writings_on w.paths) 0 w.lives
 
--- a confirm goes while the channel is open, or where the container was the cause of its closing
--- event
+-- answers on channels go until the connection closes, and what ends channels until a
+-- connection.close or its close-ok went
+abbrev pub may_answer : State → Bool
+may_answer w = not (w.out_of_memory || is_closing w.conn)
+
+abbrev pub may_end : State → Bool
+may_end w = not (w.out_of_memory || (w.sent_last.close || w.sent_last.close_ok))
+
+-- what is owed for publishes of an open channel goes as the answers do, and where the container
+-- was the cause that the connection closes; on a channel that its container closed it goes as what
+-- ends channels does too
+abbrev pub may_confirm_all : State → Bool
+may_confirm_all w = may_answer w || w.by_peer
+
+abbrev pub may_confirm : Bool → Life → Bool
+may_confirm all l = if l.over then l.by_peer else all
+
 abbrev pub confirm_on : Bool → ℕ → Option Confirm → List Reply
 confirm_on may n None = []
 confirm_on may n (Some c) = when may (reply.OnChannel n (unit.Confirm c))
 
-abbrev pub may_confirm : Life → Bool
-may_confirm l = not l.over || l.by_peer
-
--- so does a return, before any confirm of its channel; but none that begins once the pair ran out
--- of memory
+-- a return before any confirm of its channel; but none that begins once the pair ran out of memory
 abbrev pub return_on : Bool → ℕ → Option NextReturn → List Reply
 return_on may n None = []
 return_on may n (Some r) = when (may && r.first) (reply.OnChannel n (unit.Return r))
 
-abbrev pub confirms_on : Bool → List (Option PathState) → ℕ → Life → List Reply
-confirms_on calm ps n l =
-    return_on (calm && may_confirm l) n (next_return (path_at ps n))
-    ++ confirm_on (may_confirm l) n (next_confirm (path_at ps n))
+abbrev pub confirms_on : Bool → Bool → List (Option PathState) → ℕ → Life → List Reply
+confirms_on calm all ps n l =
+    return_on (calm && may_confirm all l) n (next_return (path_at ps n))
+    ++ confirm_on (may_confirm all l) n (next_confirm (path_at ps n))
 
 abbrev pub confirms : State → List Reply
-confirms w = each (confirms_on (not w.out_of_memory) w.paths) 0 w.lives
+confirms w = each (confirms_on (not w.out_of_memory) (may_confirm_all w) w.paths) 0 w.lives
 
 -- the frames of a return that is begun go on before all else, and where its channel closes too: a
 -- content stands together (AMQP 0-9-1 4.2.6)
-abbrev pub content_on : ℕ → Option NextReturn → List Reply
-content_on n None = []
-content_on n (Some r) = when (not r.first) (reply.OnChannel n (unit.Return r))
+abbrev pub may_go_on : Bool → Life → Bool
+may_go_on all l = all || (l.over && l.by_peer)
 
-abbrev pub contents_on : List (Option PathState) → ℕ → Life → List Reply
-contents_on ps n l = content_on n (next_return (path_at ps n))
+abbrev pub content_on : Bool → ℕ → Option NextReturn → List Reply
+content_on may n None = []
+content_on may n (Some r) = when (may && not r.first) (reply.OnChannel n (unit.Return r))
+
+abbrev pub contents_on : Bool → List (Option PathState) → ℕ → Life → List Reply
+contents_on all ps n l = content_on (may_go_on all l) n (next_return (path_at ps n))
 
 abbrev pub contents : State → List Reply
-contents w = each (contents_on w.paths) 0 w.lives
+contents w = each (contents_on (may_confirm_all w) w.paths) 0 w.lives
 
 -- one to a channel.close that crossed the gateway's waits for nothing
 abbrev pub close_oks_on : ℕ → Bool → Life → List Reply
@@ -282,19 +296,15 @@ refused_on settled n (Some r) = when settled (reply.ChannelClose n r)
 abbrev pub channel_closes : State → List Reply
 channel_closes w = each (λ n l. refused_on (is_channel_settled w n) n l.close) 0 w.lives
 
--- answers on channels go until the connection closes, and what ends channels until a
--- connection.close or its close-ok went
-abbrev pub may_answer : State → Bool
-may_answer w = not (w.out_of_memory || is_closing w.conn)
+-- what is owed for publishes goes on some channel; and frames of returns until the pair runs out of
+-- memory
+abbrev pub may_confirm_some : State → Bool
+may_confirm_some w = may_confirm_all w || may_end w
 
--- frames of returns do as confirms, until the pair runs out of memory
 abbrev pub may_return : State → Bool
-may_return w = not w.out_of_memory && (not (is_closing w.conn) || w.by_peer)
+may_return w = not w.out_of_memory && may_confirm_some w
 
-abbrev pub may_end : State → Bool
-may_end w = not (w.out_of_memory || (w.sent_last.close || w.sent_last.close_ok))
-
--- and the gateway's channel.close until the client closed the connection
+-- the gateway's channel.close goes until the client closed the connection
 abbrev pub is_closed_phase : Phase91 → Bool
 is_closed_phase phase.Header = false
 is_closed_phase phase.Start = false
@@ -323,7 +333,7 @@ client_units w =
     if_so (may_return w) (contents w)
     ++ (if_so (may_answer w) (writings w)
     ++ (openings p ++ (if_so (may_answer w) (answers w)
-    ++ (if_so (may_answer w || w.by_peer) (confirms w)
+    ++ (if_so (may_confirm_some w) (confirms w)
     ++ (close_oks p ++ (if_so (may_end w) (channel_oks w)
     ++ (last_closes p ++ if_so (may_tell w) (channel_closes w))))))))
 

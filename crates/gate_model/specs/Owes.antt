@@ -7,13 +7,13 @@ use Rattle.gate_outside.specs.declared.ports.End.TheVariants.{Client}
 use Rattle.machine_091.specs.State.{is_closing, is_open}
 use Rattle.gate_model.specs.Answers.{AreReplies, is_close_ok, last_units}
 use Rattle.gate_model.specs.Begins.{has_begun}
-use Rattle.gate_model.specs.Closes.{tells_close}
+use Rattle.gate_model.specs.Closes.{closes_since, tells_close}
 use Rattle.gate_model.specs.Contents.{IsReturned}
 use Rattle.gate_model.specs.Due.{is_closed_phase, pick}
 use Rattle.gate_model.specs.Folds.{answers_of, connection, paths_in, ran_out_in, replies, routes_in}
 use Rattle.gate_model.specs.Folds.{sent, sent_since, until_memory}
 use Rattle.gate_model.specs.Once.{is_channel_close, is_method_on, is_open_ok_on}
-use Rattle.gate_model.specs.Parting.{ended_by_container}
+use Rattle.gate_model.specs.Parting.{by_container, ended_by_container}
 use Rattle.gate_model.specs.Publishing.{opens_channel}
 use Rattle.gate_model.specs.Reasons.{reason_at}
 use Rattle.gate_model.specs.Shuts.{frees_channel}
@@ -132,12 +132,15 @@ pub record IsReplied (h : List Step) : Type 0 where
 
 -- where nothing goes to the client, none of that is owed; nor the rest of a return that is begun, on
 -- a channel that closed too, while the pair has memory and the connection isn't closing or its
--- container closed it (4.2.6)
+-- container closed it; or, on one that its container closed, until a connection.close or its
+-- close-ok was sent whole (4.2.6)
 pub record AreThrough (h : List Step) : Type 0 where
   pub channels : (n : ℕ) → n < 256 → OwesNone h n
   pub returns : ran_out_in h ≡ false
       → (is_closing (connection h) ≡ false) ⊎ (ended_by_container h ≡ true)
       → (n number : ℕ) → IsReturned h n number → ⊥
+  pub parted : MayEnd h → (n number : ℕ) → by_container h n ≡ true → closes_since n h ≡ 0
+      → IsReturned h n number → ⊥
   pub connection : IsReplied h
 
 abbrev pub EndsClients : List Step → Type 0

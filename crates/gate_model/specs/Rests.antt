@@ -21,6 +21,7 @@ use Rattle.gate_model.specs.Contents.{IsBegun}
 use Rattle.gate_model.specs.Due.{pick}
 use Rattle.gate_model.specs.Folds.{carrying, connection, container, ran_out_in, sent_up, side_in}
 use Rattle.gate_model.specs.Lives.{is_carried, session_in}
+use Rattle.gate_model.specs.Owes.{MayEnd}
 use Rattle.gate_model.specs.Parting.{IsCalledFor, ended_by_container}
 use Rattle.gate_model.specs.Publishing.{path_events, path_life}
 use Rattle.gate_model.specs.State.{Step, before}
@@ -42,12 +43,12 @@ pub record IsServed (h : List Step) (n life : ℕ) : Type 0 where
       → x ≡ ok.Get
 
 -- what is owed for publishes goes on a channel that its container closed too, until the gateway's
--- channel.close goes (AMQP 0-9-1 1.5.2.5): while the connection goes on or its container closed
--- that, and the pair has memory
+-- channel.close goes (AMQP 0-9-1 1.5.2.5): while the pair has memory, and the connection goes on,
+-- its container closed that, or no connection.close and no close-ok was sent whole
 pub record IsToTell (h : List Step) (n : ℕ) : Type 0 where
   pub called : IsCalledFor h n
   pub unclosed : closes_since n h ≡ 0
-  pub connection : (is_closing (connection h) ≡ false) ⊎ (ended_by_container h ≡ true)
+  pub connection : (is_closing (connection h) ≡ false) ⊎ ((ended_by_container h ≡ true) ⊎ MayEnd h)
   pub memory : ran_out_in h ≡ false
 
 -- no publish that waits for its confirm has an outcome, and none is to go back

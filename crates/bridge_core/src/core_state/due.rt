@@ -4,7 +4,8 @@ ghost use Rattle.std.specs.Prelude.{◌≡◌, ◌||◌, true, false};
 ghost use Rattle.gate_model.specs.Due.{attaches, begins, carried_rows, carries_back, carries_of};
 ghost use Rattle.gate_model.specs.Due.{channel_closes, channel_oks, client_rows, client_units};
 ghost use Rattle.gate_model.specs.Due.{detaches, ends, if_so, is_beat_due, last_closes};
-ghost use Rattle.gate_model.specs.Due.{link_flows, may_end, may_go, may_tell, none_left};
+ghost use Rattle.gate_model.specs.Due.{link_flows, may_confirm_all, may_confirm_some, may_end};
+ghost use Rattle.gate_model.specs.Due.{may_go, may_tell, none_left};
 ghost use Rattle.gate_model.specs.Due.{may_idle, openings, other_rows, rows_in, session_flows};
 ghost use Rattle.gate_model.specs.Due.{session_rows};
 ghost use Rattle.gate_model.specs.Due.{settlings, transfers, unless_out, up_rows};
@@ -143,14 +144,29 @@ impl Core {
         }
     }
 
+    /// What is owed for publishes may go on each channel whose life goes on.
+    fn may_confirm_all(&self) -> bool
+        ensures { result ≡ may_confirm_all self.now }
+    {
+        !(self.out_of_memory || self.conn.is_closing()) || self.by_peer
+    }
+
+    /// It may go on some channel.
+    fn may_confirm_some(&self) -> bool
+        ensures { result ≡ may_confirm_some self.now }
+    {
+        self.may_confirm_all() || self.may_end()
+    }
+
     /// The first confirm, where confirms may go.
     fn next_confirm(&self) -> Option<Reply>
         ensures { result ≡ first (confirm_units self.now) }
     {
-        if (self.out_of_memory || self.conn.is_closing()) && !self.by_peer {
+        if !self.may_confirm_some() {
             return None;
         }
-        first_confirm(self.lives.all(), &self.paths, !self.out_of_memory)
+        let all = self.may_confirm_all();
+        first_confirm(self.lives.all(), &self.paths, !self.out_of_memory, all)
     }
 
     /// The first of the confirms, and of what closes.
@@ -282,10 +298,10 @@ impl Core {
     fn next_content(&self) -> Option<Reply>
         ensures { result ≡ first (content_units self.now) }
     {
-        if self.out_of_memory || (self.conn.is_closing() && !self.by_peer) {
+        if self.out_of_memory || !self.may_confirm_some() {
             return None;
         }
-        first_content(self.lives.all(), &self.paths)
+        first_content(self.lives.all(), &self.paths, self.may_confirm_all())
     }
 
     /// The first of all but a heartbeat.

@@ -5,8 +5,8 @@ use Rattle.bridge_core.proofs.channel_rows.first_confirm.Goals as goal
 
 pub returns-in-Some : goal.returns-in-Some
 returns-in-Some c =
-    row_found (confirms_on c.args.calm c.args.paths.now) c.loop-i.i c.args.lives.now c.index-lives-i.result (omega (arith, c.type_inv.lives)) c.outcome_on.ensures c.in-Some.is c.loop-i.invariant
+    row_found (confirms_on c.args.calm c.args.all c.args.paths.now) c.loop-i.i c.args.lives.now c.index-lives-i.result (omega (arith, c.type_inv.lives)) c.outcome_on.ensures c.in-Some.is c.loop-i.invariant
 
 pub loop-i-preserved : goal.loop-i-preserved
 loop-i-preserved c =
-    row_passed (confirms_on c.args.calm c.args.paths.now) c.loop-i.i c.args.lives.now c.index-lives-i.result (omega (arith, c.type_inv.lives)) c.outcome_on.ensures c.in_default.is c.loop-i.invariant
+    row_passed (confirms_on c.args.calm c.args.all c.args.paths.now) c.loop-i.i c.args.lives.now c.index-lives-i.result (omega (arith, c.type_inv.lives)) c.outcome_on.ensures c.in_default.is c.loop-i.invariant
