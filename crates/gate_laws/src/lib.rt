@@ -151,12 +151,13 @@ pub fn requests_hold_what_follows()
 /// waits for its confirm has an outcome, none is to go back, no content is begun, no delivery to a
 /// consumer may go, and each request whose answer is due was answered, but for one that waits for
 /// its get-ok. While the pair has memory, one that its container closed is owed no confirm and no
-/// return until its channel.close. Where nothing goes to a container before the gateway's close,
-/// each session that is begun has nothing owed: no disposition is due, no link is to be detached,
-/// and while the pair has memory no publish may be transferred, no credit is to be stated, and no
-/// link to be attached. Nor is a begin, a flow of a session, an end or the close. So while the pair
-/// has memory more than half of the quota of each consumer's live link is used, by what is left of
-/// the credit and by the deliveries that count. On one whose consumer was cancelled none is left.
+/// return until its channel.close went, or a connection.close or its close-ok. Where nothing goes
+/// to a container before the gateway's close, each session that is begun has nothing owed: no
+/// disposition is due, no link is to be detached, and while the pair has memory no publish may be
+/// transferred, no credit is to be stated, and no link to be attached. Nor is a begin, a flow of a
+/// session, an end or the close. So while the pair has memory more than half of the quota of each
+/// consumer's live link is used, by what is left of the credit and by the deliveries that count.
+/// On one whose consumer was cancelled none is left.
 /// Each flow of the container that asks for the state of a receiving link has one behind it, and so
 /// has each basic.get that waits. While a handle is left that no link of the life had, each publish
 /// of which a frame is to go has a link to its address. So has each basic.consume, queue.declare
@@ -166,9 +167,10 @@ pub fn requests_hold_what_follows()
 /// Where nothing goes to a client, no channel.open-ok is owed on a channel that is open, and none of
 /// what ends channels, once nothing of the container is waited for there: neither a close-ok to the
 /// client's channel.close nor the gateway's own. No return that is begun has a frame left, while the
-/// pair has memory and the connection isn't closing or its container closed it. Of the connection
-/// the replies to what came went, but for its close and its close-ok while the upstream end is
-/// waited for.
+/// pair has memory and the connection isn't closing or its container closed it. Nor has one on a
+/// channel that its container closed, until the gateway's channel.close went, or a connection.close
+/// or its close-ok. Of the connection the replies to what came went, but for its close and its
+/// close-ok while the upstream end is waited for.
 pub fn owed_units_go()
     ensures clients { (s : SetupText) (c : Limits) (m : History) → Follows (pair_words s) c m
         → (p : ℕ) → ServesClients (steps_of s (journal p m)) }

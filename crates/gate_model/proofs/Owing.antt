@@ -55,7 +55,7 @@ use Rattle.gate_model.specs.State.{fail, failed, is_limit_reached, left, life_fa
 use Rattle.gate_model.specs.State.{session_lost, sessions_lost, want_in, windowed, with_meaning, with_session, without_begin, without_life}
 use Rattle.gate_model.specs.Upstream.{channel_max_of, heard_up, meaning_by}
 use Rattle.gate_model.proofs.Backs.{ReturnsAre}
-use Rattle.gate_model.proofs.Basics.{or_right}
+use Rattle.gate_model.proofs.Basics.{and_none, or_right}
 use Rattle.gate_model.proofs.Channels.{client_opens}
 use Rattle.gate_model.proofs.Clear.{free_at, freed_at, freed_turns, open_at, told_at, told_turns, want_is}
 use Rattle.gate_model.proofs.Connections.{clash, closing_only, opened_runs}

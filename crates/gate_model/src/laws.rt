@@ -361,10 +361,10 @@ pub fn lines_are_lawful()
 /// waits for its confirm has an outcome, none is to go back, no content is begun, no delivery to a
 /// consumer may go, and each request whose answer is due was answered, but for one that waits for
 /// its get-ok. While the pair has memory, one that its container closed is owed no confirm and no
-/// return until its channel.close. Where nothing goes to the container before the gateway's close,
-/// each session that is begun has nothing owed: no disposition is due, no link is to be detached,
-/// and while the pair has memory no publish may be transferred, no credit is to be stated, and no
-/// link to be attached.
+/// return until its channel.close went, or a connection.close or its close-ok. Where nothing goes
+/// to the container before the gateway's close, each session that is begun has nothing owed: no
+/// disposition is due, no link is to be detached, and while the pair has memory no publish may be
+/// transferred, no credit is to be stated, and no link to be attached.
 pub fn owed_units_go()
     ensures clients { (h : List Step) → ArePicks h → ServesClients h }
     ensures containers { (h : List Step) → ArePicks h → SuppliesContainers h }
@@ -420,7 +420,8 @@ pub fn links_are_supplied()
 /// the connection. Of the connection the replies to what came went; but for its close and its
 /// close-ok while the upstream end is waited for. After the pair ran out of memory the last units
 /// went. While the pair has memory, and the connection isn't closing or its container closed it, no
-/// return that is begun has a frame left, on any channel.
+/// return that is begun has a frame left, on any channel. Nor has one on a channel that its
+/// container closed, until the gateway's channel.close went, or a connection.close or its close-ok.
 pub fn clients_get_what_is_due()
     ensures { (h : List Step) → ArePicks h → EndsClients h }
 {
