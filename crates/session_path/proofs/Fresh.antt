@@ -105,9 +105,9 @@ fresh_detached peer s a = by (named peer s)
     by None = a
     by (Some l) = either (is_given l)
       where
-        either : (b : Bool) → AllByRecursion IsFresh (cond b (dropped l.link s.links) (put (left_by l) s.links))
+        either : (b : Bool) → AllByRecursion IsFresh (cond b (dropped l.link s.links) (put (left_by s.sending l) s.links))
         either true = all_filter _ IsFresh s.links a
-        either false = fresh_put (left_by l) s.links (stale (left_by l) refl) a
+        either false = fresh_put (left_by s.sending l) s.links (stale (left_by s.sending l) refl) a
 
 fresh_failed : (peer : ℕ) (fault : TransferFault) (s : LinksState) → AreFresh s → AreFresh (link_failed peer fault s)
 fresh_failed peer fault s a = by (named peer s)

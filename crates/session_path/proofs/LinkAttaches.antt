@@ -125,9 +125,9 @@ detached_one : (name h : ℕ) (s : LinksState) (o : Option PathLink) → Tied s 
 detached_one name h s None t e = omega arith
 detached_one name h s (Some l) t e = by (is_given l)
   where
-    by : (b : Bool) → waiting name (cond b (dropped l.link s.links) (put (left_by l) s.links)) ≤ waiting name s.links
+    by : (b : Bool) → waiting name (cond b (dropped l.link s.links) (put (left_by s.sending l) s.links)) ≤ waiting name s.links
     by true = waiting_filter name _ s.links
-    by false = let a = waiting_put name 0 (is_at h) s.links l (left_by l) t.rising e refl in omega arith
+    by false = let a = waiting_put name 0 (is_at h) s.links l (left_by s.sending l) t.rising e refl in omega arith
 
 waiting_detached : (name peer : ℕ) (s : LinksState) → Tied s → waiting name (link_detached peer s).links ≤ waiting name s.links
 waiting_detached name peer s t = by (named_by s.handles peer)

@@ -9,7 +9,6 @@ use Rattle.link_table.specs.Table.{free_of, named_by}
 use Rattle.publish_path.specs.Links.{link_to}
 use Rattle.publish_path.specs.declared.publish.Publish.{Publish}
 use Rattle.publish_path.specs.declared.send_links.SendingLink.{SendingLink}
-use Rattle.consume_path.specs.Deliveries.{DeliveryState}
 use Rattle.consume_path.specs.Offers.{next_settle_of}
 use Rattle.consume_path.specs.declared.receiving.TransferFault.{TransferFault}
 use Rattle.session_path.specs.declared.path.AttachHeard.{AttachHeard}
@@ -19,7 +18,7 @@ use Rattle.session_path.specs.Links.{at_handle, attach_fault, attached, attached
 use Rattle.session_path.specs.Links.{failed_by, failed_on, flowed_on, free_number, given_by}
 use Rattle.session_path.specs.Links.{given_on}
 use Rattle.session_path.specs.Links.{gone_on, has_number, is_asked_as, is_at, is_given, is_left}
-use Rattle.session_path.specs.Links.{is_parting, is_stage_whole, is_wanted}
+use Rattle.session_path.specs.Links.{is_stage_whole, is_wanted}
 use Rattle.session_path.specs.Links.{is_wanted_receiver, left_by, link_asked, link_detached}
 use Rattle.session_path.specs.Links.{link_failed, link_flowed, linked_to, named, one_if, parted}
 use Rattle.session_path.specs.Links.{put}
@@ -36,7 +35,7 @@ use Rattle.session_path.specs.Events.{TransferSent, SettleSent, DisposeSent, Det
 use Rattle.session_path.specs.Events.{ConfirmWent, ReturnWent, DeliverSent, ContentSent}
 use Rattle.session_path.specs.Events.{ContentWhole, OkSent, LinesWent, LifeClosed, SessionLost}
 use Rattle.session_path.specs.Events.{UpLost, after_event, after_events}
-use Rattle.session_path.specs.Flows.{causes_by, causes_on, flows_by, flows_on, given_in}
+use Rattle.session_path.specs.Flows.{causes_by, causes_on, echoes_on, flows_by, flows_on, given_in}
 use Rattle.session_path.specs.Flows.{given_named, is_link, left_in, owed_in}
 use Rattle.session_path.specs.Flows.{owed_on}
 use Rattle.session_path.proofs.Fresh.{AreFresh, IsFresh, fresh_after}
@@ -225,19 +224,31 @@ flowed_step n peer flows causes count credit drain echo s t is = by (named_by s.
     by (Some h) = flowed_one n h flows causes count credit drain echo s (find (is_at h) s.links) t refl is
 
 detached_one : (n h flows causes : ℕ) (s : LinksState) (o : Option PathLink) → Tied s → find (is_at h) s.links ≡ o → flows + owed_on n s.links ≡ causes
-    → (flows + 0) + owed_on n (detached_on o s).links ≡ cond (is_link n (given_in o)) flows causes
+    → (flows + 0) + owed_on n (detached_on o s).links ≡ cond (is_link n (given_in o)) flows (causes - echoes_on n o)
 detached_one n h flows causes s None t e is = omega arith
 detached_one n h flows causes s (Some l) t e is = by (is_given l)
   where
-    by : (b : Bool) → (flows + 0) + owed_on n (cond b (dropped l.link s.links) (put (left_by l) s.links)) ≡ cond (is_link n (cond b (Some l) None)) flows causes
-    by true = owed_none n l.link flows causes s.links is
-    by false = kept flows (owed_on n s.links) _ causes is (owed_same n (is_at h) s.links l (left_by l) t.rising e refl refl)
+    gone : (c : Bool) → (flows + 0) + owed_on n (dropped l.link s.links) ≡ cond c flows causes → (flows + 0) + owed_on n (dropped l.link s.links) ≡ cond c flows (causes - cond c l.echoes 0)
+    gone true f = f
+    gone false f = omega arith
+
+    fewer : (new old e d f c : ℕ) → new + (e + d) ≡ old + (0 + d) → f + old ≡ c → (f + 0) + new ≡ c - e
+    fewer new old e d f c p q = omega arith
+
+    left : (c : Bool) → owed_on n (put (left_by s.sending l) s.links) + cond c (l.echoes + l.drains) 0 ≡ owed_on n s.links + cond c (0 + l.drains) 0
+        → (flows + 0) + owed_on n (put (left_by s.sending l) s.links) ≡ causes - cond c l.echoes 0
+    left true f = fewer (owed_on n (put (left_by s.sending l) s.links)) (owed_on n s.links) l.echoes l.drains flows causes f is
+    left false f = omega arith
+
+    by : (b : Bool) → (flows + 0) + owed_on n (cond b (dropped l.link s.links) (put (left_by s.sending l) s.links)) ≡ cond (is_link n (cond b (Some l) None)) flows (causes - cond (l.link == n) l.echoes 0)
+    by true = gone (l.link == n) (owed_none n l.link flows causes s.links is)
+    by false = left (l.link == n) (owed_put n (is_at h) s.links l (left_by s.sending l) t.rising e refl)
 
 detached_step : (n peer flows causes : ℕ) (s : LinksState) → Tied s → flows + owed_on n s.links ≡ causes
-    → (flows + 0) + owed_on n (link_detached peer s).links ≡ cond (is_link n (given_named peer s)) flows causes
+    → (flows + 0) + owed_on n (link_detached peer s).links ≡ cond (is_link n (given_named peer s)) flows (causes - echoes_on n (named peer s))
 detached_step n peer flows causes s t is = by (named_by s.handles peer)
   where
-    by : (o : Option ℕ) → (flows + 0) + owed_on n (detached_on (at_handle o s.links) s).links ≡ cond (is_link n (given_in (at_handle o s.links))) flows causes
+    by : (o : Option ℕ) → (flows + 0) + owed_on n (detached_on (at_handle o s.links) s).links ≡ cond (is_link n (given_in (at_handle o s.links))) flows (causes - echoes_on n (at_handle o s.links))
     by None = omega arith
     by (Some h) = detached_one n h flows causes s (find (is_at h) s.links) t refl is
 
@@ -275,7 +286,7 @@ failed_step n peer fault s t = by (named_by s.handles peer)
 
 -- a flow that is due answers one cause
 told_less : (list : List Publish) (sending : List SendingLink) (l : PathLink) → owes_flow list sending l ≡ true → (l.echoes - 1) + cond (l.echoes == 0) (l.drains - 1) l.drains + 1 ≡ l.echoes + l.drains
-told_less list sending l e = by (is_parting l) l.echoes l.drains (may_drain list sending l) e
+told_less list sending l e = by (is_given l) l.echoes l.drains (may_drain list sending l) e
   where
     plain : (k d : ℕ) → (suc k - 1) + d + 1 ≡ suc k + d
     plain k d = omega arith

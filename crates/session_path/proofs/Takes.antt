@@ -81,9 +81,9 @@ detached_one : (n h : ℕ) (s : LinksState) (o : Option PathLink) → Tied s →
 detached_one n h s None t e = refl
 detached_one n h s (Some l) t e = by (is_given l) refl
   where
-    by : (b : Bool) → is_given l ≡ b → takes n (cond b (dropped l.link s.links) (put (left_by l) s.links)) ≡ takes n s.links
+    by : (b : Bool) → is_given l ≡ b → takes n (cond b (dropped l.link s.links) (put (left_by s.sending l) s.links)) ≡ takes n s.links
     by true is = dropped_takes n l.link s.links ∙ other_takes (is_at h) n s.links l t.rising e (not_taking l is)
-    by false is = restaged (is_at h) n s.links l (left_by l) t.rising e refl refl refl is
+    by false is = restaged (is_at h) n s.links l (left_by s.sending l) t.rising e refl refl refl is
 
 pub takes_detached : (n peer : ℕ) (s : LinksState) → Tied s → takes n (link_detached peer s).links ≡ takes n s.links
 takes_detached n peer s t = by (named_by s.handles peer)

@@ -532,21 +532,21 @@ read_half (state.Attached a) e = by a.detach_sent e
 
 pub detached_tied : (h : ℕ) (sending : List SendingLink) (ls : List PathLink) (t : HandleTable) (l : PathLink)
     → AreTied sending ls t → find (is_at h) ls ≡ Some l
-    → AreTied (without l.link sending) (detached_from l ls) (after_detach_read (handle_of l.stage) t)
+    → AreTied (without l.link sending) (detached_from sending l ls) (after_detach_read (handle_of l.stage) t)
 detached_tied h sending ls t l tied e = by (is_given l) refl
   where
     found : (stands t l.stage ≡ true) × (is_at h l ≡ true)
     found = all_find (λ k. stands t k.stage ≡ true) (is_at h) ls l tied.standing e
 
-    by : (b : Bool) → is_given l ≡ b → AreTied (without l.link sending) (cond b (dropped l.link ls) (put (left_by l) ls)) (after_detach_read (handle_of l.stage) t)
+    by : (b : Bool) → is_given l ≡ b → AreTied (without l.link sending) (cond b (dropped l.link ls) (put (left_by sending l) ls)) (after_detach_read (handle_of l.stage) t)
     by true given =
         let gone = dropped_tied (is_at h) sending ls t l (with_read (state_of t (handle_of l.stage))) tied e (or_right (is_to_part l) (is_given l) given) in
         record { rising = gone.rising; apart = gone.apart; standing = gone.standing; kept = all_filter _ (λ s. is_kept (dropped l.link ls) s ≡ true) sending gone.kept }
     by false given =
         let whole : is_whole (state_of t (handle_of l.stage)) ≡ true = at_whole t h l.stage found.1 given found.0 in
-        moved_tied (is_at h) sending (without l.link sending) ls t l (left_by l) (handle_of l.stage) _ tied e refl (handle_some (is_stage_at h) refl l.stage found.1) refl
+        moved_tied (is_at h) sending (without l.link sending) ls t l (left_by sending l) (handle_of l.stage) _ tied e refl (handle_some (is_stage_at h) refl l.stage found.1) refl
         (ap is_half (state_same is_whole t (handle_of l.stage) (with_read (state_of t (handle_of l.stage))) refl whole) ∙ read_half (state_of t (handle_of l.stage)) whole)
-        (kept_without (left_by l) sending ls tied.kept)
+        (kept_without (left_by sending l) sending ls tied.kept)
 
 -- the gateway's detach of one that the container detached
 

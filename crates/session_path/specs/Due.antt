@@ -29,8 +29,8 @@ use Rattle.session_path.specs.declared.path.Settling.{Settling}
 use Rattle.session_path.specs.declared.path.ContentDue.{ContentDue}
 use Rattle.session_path.specs.declared.path.DeliverDue.{DeliverDue}
 use Rattle.session_path.specs.declared.path.Writing.{Writing}
-use Rattle.session_path.specs.Links.{handle_of, is_wanted}
-use Rattle.session_path.specs.Path.{PathState, credit_in, detaching_of, flow_of, frames_of}
+use Rattle.session_path.specs.Links.{count_in, credit_in, handle_of, is_left, is_wanted}
+use Rattle.session_path.specs.Path.{PathState, detaching_of, flow_of, frames_of}
 use Rattle.session_path.specs.Path.{grant_in}
 use Rattle.session_path.specs.Path.{first_of, granting, is_grant_next, source_of, taking}
 
@@ -46,17 +46,20 @@ abbrev pub next_attach : PathState → Option AttachDue
 next_attach s = attach_of (find is_wanted s.links.links) (free_of s.links.handles)
 
 -- a flow of a link, with the count and the credit that it states: one that gives the credit back
--- states none, and a count past it
-abbrev pub count_in : Option SendingLink → ℕ
-count_in None = 0
-count_in (Some l) = l.state.count
+-- states none, and a count past it. On a link that the container detached they are those that it
+-- had then
+abbrev pub count_of : List SendingLink → PathLink → ℕ
+count_of sending l = if is_left l then l.count else count_in (link_of sending l.link)
+
+abbrev pub credit_of : List SendingLink → PathLink → ℕ
+credit_of sending l = if is_left l then l.credit else credit_in (link_of sending l.link)
 
 abbrev pub flow_due : List SendingLink → PathLink → FlowDue
 flow_due sending l = record {
   link = l.link;
   handle = handle_of l.stage;
-  count = count_in (link_of sending l.link);
-  credit = credit_in (link_of sending l.link);
+  count = count_of sending l;
+  credit = credit_of sending l;
   drains = l.echoes == 0;
   draining = l.draining;
 }

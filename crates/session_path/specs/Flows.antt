@@ -1,7 +1,7 @@
 -- The flows on a link, and what they answer, by the events. Those that the deliveries of
 -- a receiving link ask for aren't counted.
-use Rattle.std.specs.Prelude.{ℕ, Bool, false, not, ◌+◌, ◌==◌, ◌&&◌, if◌then◌else◌, List, [], ◌∷◌}
-use Rattle.std.specs.Prelude.{find, Option, Some, None}
+use Rattle.std.specs.Prelude.{ℕ, Bool, false, not, ◌+◌, ◌-◌, ◌==◌, ◌&&◌, if◌then◌else◌, List, []}
+use Rattle.std.specs.Prelude.{◌∷◌, find, Option, Some, None}
 use Rattle.session_path.specs.declared.path.PathLink.{PathLink}
 use Rattle.session_path.specs.Links.{LinksState, has_number, is_given, is_left, named}
 use Rattle.session_path.specs.Links.{one_if}
@@ -72,9 +72,15 @@ abbrev pub left_in : Option PathLink → Option PathLink
 left_in None = None
 left_in (Some l) = if is_left l then Some l else None
 
+-- the echoes that link n is owed, where it is this one
+abbrev pub echoes_on : ℕ → Option PathLink → ℕ
+echoes_on n None = 0
+echoes_on n (Some l) = if l.link == n then l.echoes else 0
+
 -- what the container's flows on a sending link n are owed, where so many went and so many were
--- owed: one flow for each echo, and one for each drain (AMQP 1.0 2.7.4); a link that is no more is
--- owed no more than went
+-- owed: one flow for each echo, and one for each drain (AMQP 1.0 2.7.4). A link that the container
+-- detached is owed its drains alone, until the gateway detaches it (2.6.6, 2.6.7); one that is no
+-- more is owed no more than went
 abbrev pub causes_by : ℕ → PathState → ℕ → ℕ → PathEvent → ℕ
 causes_by n s flows causes (Began handle_max) = causes
 causes_by n s flows causes (Published address payload back) = causes
@@ -90,7 +96,8 @@ causes_by n s flows causes (FlowCame peer count credit drain echo) =
     causes
     + (if is_link n (sender_in (named peer s.links)) then one_if echo + one_if drain else 0)
 causes_by n s flows causes (DetachCame peer not_found) =
-    if is_link n (given_named peer s.links) then flows else causes
+    if is_link n (given_named peer s.links) then flows
+    else causes - echoes_on n (named peer s.links)
 causes_by n s flows causes (TransferCame peer part payload image again) = causes
 causes_by n s flows causes (LinkFailed peer fault) = causes
 causes_by n s flows causes (DispositionCame first last outcome settled) = causes

@@ -9,7 +9,9 @@ use Rattle.link_table.specs.declared.handles.HandleState.TheVariants as state
 use Rattle.link_table.specs.Table.{HandleTable, after_attach, after_attached, after_detach_read}
 use Rattle.link_table.specs.Table.{after_detach_sent, after_limit, free_of, is_asked, named_by}
 use Rattle.link_table.specs.Table.{new_table, state_of}
-use Rattle.publish_path.specs.Links.{asked_link, drained, flowed, link_to, now_attached, without}
+use Rattle.links_10.specs.Send.{advanced}
+use Rattle.publish_path.specs.Links.{asked_link, drained, flowed, link_of, link_to, now_attached}
+use Rattle.publish_path.specs.Links.{without}
 use Rattle.publish_path.specs.declared.send_links.SendingLink.{SendingLink}
 use Rattle.session_path.specs.declared.path.AttachFault.{AttachFault}
 use Rattle.session_path.specs.declared.path.AttachFault.TheVariants.{NotAsked, HandleInUse}
@@ -226,6 +228,8 @@ wanted_link n receives = record {
   echoes = 0;
   drains = 0;
   draining = false;
+  count = 0;
+  credit = 0;
 }
 
 -- a link with this number is wanted: all that are below it stand in front of it
@@ -325,19 +329,34 @@ abbrev pub link_flowed : ℕ → Option ℕ → ℕ → Bool → Bool → LinksS
 link_flowed peer count credit drain echo s = flowed_on (named peer s) count credit drain echo s
 
 -- its detach: the link is lost for the publishes, and the gateway's detach is due; one that the
--- gateway detached is no more
-abbrev pub left_by : PathLink → PathLink
-left_by l = record l { stage = Left (handle_of l.stage) }
+-- gateway detached is no more. A sending link is asked for its state no more; its delivery-count
+-- and credit stay with it, since a drain may still be due (AMQP 1.0 2.6.7)
+abbrev pub count_in : Option SendingLink → ℕ
+count_in None = 0
+count_in (Some x) = x.state.count
 
-abbrev pub detached_from : PathLink → List PathLink → List PathLink
-detached_from l links =
-    if is_given l then filter (λ k. not (has_number l.link k)) links else put (left_by l) links
+abbrev pub credit_in : Option SendingLink → ℕ
+credit_in None = 0
+credit_in (Some x) = x.state.credit
+
+abbrev pub left_by : List SendingLink → PathLink → PathLink
+left_by sending l = record l {
+  stage = Left (handle_of l.stage);
+  echoes = 0;
+  count = count_in (link_of sending l.link);
+  credit = credit_in (link_of sending l.link);
+}
+
+abbrev pub detached_from : List SendingLink → PathLink → List PathLink → List PathLink
+detached_from sending l links =
+    if is_given l then filter (λ k. not (has_number l.link k)) links
+    else put (left_by sending l) links
 
 abbrev pub detached_on : Option PathLink → LinksState → LinksState
 detached_on None s = s
 detached_on (Some l) s = record {
   sending = without l.link s.sending;
-  links = detached_from l s.links;
+  links = detached_from s.sending l s.links;
   handles = after_detach_read (handle_of l.stage) s.handles;
 }
 
@@ -380,6 +399,8 @@ abbrev pub told_once : PathLink → PathLink
 told_once l = record l {
   echoes = l.echoes - 1;
   drains = if l.echoes == 0 then l.drains - 1 else l.drains;
+  count = if l.echoes == 0 then advanced l.count l.credit else l.count;
+  credit = if l.echoes == 0 then 0 else l.credit;
 }
 
 abbrev pub drained_if : Bool → ℕ → List SendingLink → List SendingLink

@@ -35,8 +35,9 @@ use Rattle.consume_path.specs.declared.receiving.ReceivingLink.{ReceivingLink}
 use Rattle.consume_path.specs.declared.receiving.RecvKind.{RecvKind}
 use Rattle.consume_path.specs.declared.receiving.RecvKind.TheVariants.{Consumer, Get, Probe}
 use Rattle.consume_path.specs.declared.receiving.TransferFault.{TransferFault}
-use Rattle.session_path.specs.Links.{LinksState, all_lost, asked_by, attached, has_number}
-use Rattle.session_path.specs.Links.{free_number, is_given, is_parting, is_stage_refused}
+use Rattle.session_path.specs.Links.{LinksState, all_lost, asked_by, attached, credit_in}
+use Rattle.session_path.specs.Links.{free_number, has_number, is_given, is_parting}
+use Rattle.session_path.specs.Links.{is_stage_refused}
 use Rattle.session_path.specs.Links.{is_left, is_stage_failed, is_stage_whole, is_to_part}
 use Rattle.session_path.specs.Links.{is_stage_open, is_wanting, limited, link_asked, link_detached}
 use Rattle.session_path.specs.Links.{link_failed, link_flowed, linked_to, lowest, named, no_links}
@@ -468,19 +469,16 @@ outcome_came first last outcome settled s = record s {
 abbrev pub attach_sent : ℕ → PathState → PathState
 attach_sent name s = record s { links = link_asked name s.links }
 
--- a flow of a link is due: for what the container asked of its state; and to give its credit back
--- once no publish waits on it or there is none (AMQP 1.0 2.6.7)
-abbrev pub credit_in : Option SendingLink → ℕ
-credit_in None = 0
-credit_in (Some l) = l.state.credit
-
+-- a flow of a link is due until the gateway's detach goes: for what the container asked of its
+-- state; and to give its credit back once no publish waits on it or there is none to send by, as
+-- after the container's detach (AMQP 1.0 2.6.7)
 abbrev pub may_drain : List Publish → List SendingLink → PathLink → Bool
 may_drain list sending l =
     not (list_any (waits_on l.link) list) || (credit_in (link_of sending l.link) == 0)
 
 abbrev pub owes_flow : List Publish → List SendingLink → PathLink → Bool
 owes_flow list sending l =
-    not (is_parting l) && (nat_lt 0 l.echoes || (nat_lt 0 l.drains && may_drain list sending l))
+    not (is_given l) && (nat_lt 0 l.echoes || (nat_lt 0 l.drains && may_drain list sending l))
 
 abbrev pub flow_of : List Publish → LinksState → Option PathLink
 flow_of list links = find (owes_flow list links.sending) links.links

@@ -8,12 +8,14 @@ ghost use Rattle.session_path.specs.Links.{is_stage_whole, is_wanted_receiver, i
 ghost use Rattle.session_path.specs.Links.{is_asked_as, put_for, put, free_number, one_if, told_by};
 ghost use Rattle.session_path.specs.Links.{wanted_link, answered, left_by, given_by, failed_by};
 ghost use Rattle.session_path.specs.Links.{asked_as, told_once, is_left_at, gone_from};
-ghost use Rattle.session_path.specs.Links.{detached_from};
+ghost use Rattle.session_path.specs.Links.{count_in, credit_in, detached_from};
+ghost use Rattle.publish_path.specs.Links.{link_of};
 ghost use Rattle.session_path.specs.Links.{is_below, is_stage_refused};
 ghost use Rattle.session_path.specs.Path.{is_done_with, is_left_by, parts};
 
 use crate::path::{PathLink, Stage};
 use consume_path::{Deliveries, TransferFault};
+use publish_path::SendLinks;
 use wire_base::Memory;
 
 /// The handle of a link; 0 where it has none.
@@ -268,13 +270,13 @@ fn drop_numbered(links: &mut Vec<PathLink>, number: u32)
 }
 
 /// The container detached a link that both attached.
-pub fn detach_link(links: &mut Vec<PathLink>, l: PathLink)
-    ensures { links.new.items ≡ detached_from l links.old.items }
+pub fn detach_link(links: &mut Vec<PathLink>, l: PathLink, sending: &SendLinks)
+    ensures { links.new.items ≡ detached_from sending.now l links.old.items }
 {
     if is_link_given(&l) {
         drop_numbered(links, l.link);
     } else {
-        put_link(links, left(l));
+        put_link(links, left(l, sending));
     }
 }
 
@@ -305,6 +307,8 @@ pub fn wanted(link: u32, receives: bool) -> PathLink
         echoes: 0,
         drains: 0,
         draining: false,
+        count: 0,
+        credit: 0,
     }
 }
 
@@ -330,11 +334,34 @@ pub fn answered(l: PathLink, there: bool) -> PathLink
     PathLink { stage, ..l }
 }
 
-fn left(l: PathLink) -> PathLink
-    ensures { result ≡ left_by l }
+/// The credit of a sending link; 0 where it has none.
+pub fn credit_of(sending: &SendLinks, link: u32) -> u32
+    ensures { result ≡ credit_in (link_of sending.now link) }
+{
+    match sending.get(link) {
+        Some(state) => state.credit(),
+        None => 0,
+    }
+}
+
+/// The delivery-count of a sending link.
+pub fn count_of(sending: &SendLinks, link: u32) -> u32
+    ensures { result ≡ count_in (link_of sending.now link) }
+{
+    match sending.get(link) {
+        Some(state) => state.count(),
+        None => 0,
+    }
+}
+
+fn left(l: PathLink, sending: &SendLinks) -> PathLink
+    ensures { result ≡ left_by sending.now l }
 {
     PathLink {
         stage: Stage::Left(handle(l.stage)),
+        echoes: 0,
+        count: count_of(sending, l.link),
+        credit: credit_of(sending, l.link),
         ..l
     }
 }
@@ -385,14 +412,16 @@ pub fn told(l: PathLink, drain: bool, echo: bool) -> Result<PathLink, Memory>
 pub fn told_once(l: PathLink) -> PathLink
     ensures { result ≡ told_once l }
 {
-    let drains = if l.echoes == 0 {
-        l.drains.saturating_sub(1)
-    } else {
-        l.drains
-    };
+    if l.echoes > 0 {
+        return PathLink {
+            echoes: l.echoes - 1,
+            ..l
+        };
+    }
     PathLink {
-        echoes: l.echoes.saturating_sub(1),
-        drains,
+        drains: l.drains.saturating_sub(1),
+        count: l.count.wrapping_add(l.credit),
+        credit: 0,
         ..l
     }
 }

@@ -40,6 +40,10 @@ pub struct PathLink {
     pub drains: u32,
     /// Its last flow asked for that.
     pub draining: bool,
+    /// The delivery-count and the credit that a sending link had when the container detached it; a
+    /// flow gives that credit back. 0 before.
+    pub count: u32,
+    pub credit: u32,
 }
 
 /// The address of a receiving link.

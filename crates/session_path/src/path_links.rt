@@ -8,12 +8,13 @@ ghost use Rattle.publish_path.specs.Links.{without};
 ghost use Rattle.publish_path.specs.Offers.{held_bytes, held_count, next_frame_of, rest_of};
 ghost use Rattle.publish_path.specs.Offers.{frame_sent, links_after};
 ghost use Rattle.publish_path.specs.Publishes.{TakenUp, after_event};
-ghost use Rattle.session_path.specs.Path.{credit_in, flow_of, given_of, is_idle, number_of};
+ghost use Rattle.session_path.specs.Path.{flow_of, given_of, is_idle, number_of};
 ghost use Rattle.std.specs.List.{list_any};
 ghost use Rattle.session_path.specs.Path.{IsThere, detaching_in, is_resting, lower_of, owes_flow};
 ghost use Rattle.session_path.specs.Path.{is_empty_of};
 ghost use Rattle.link_table.specs.Table.{free_of};
-ghost use Rattle.session_path.specs.Due.{attach_of, count_in, due_in, flow_due};
+ghost use Rattle.session_path.specs.Due.{attach_of, due_in, flow_due};
+ghost use Rattle.session_path.specs.Links.{credit_in};
 ghost use Rattle.session_path.specs.Links.{handle_at, attached_if, drained_if, free_number};
 ghost use Rattle.session_path.specs.Links.{linked_to, with_link_to, with_wanted, told_on, no_links};
 ghost use Rattle.session_path.specs.Links.{with_receiver, without_receivers, limited, all_lost};
@@ -25,9 +26,9 @@ ghost use Rattle.session_path.specs.Links.{is_wanting, lower_if, lowest, given_o
 ghost use Rattle.session_path.specs.Links.{LinksState};
 
 use crate::links::{
-    answered, asked, count_parting, count_wanted, detach_link, drop_left, drop_wanted_receiver,
+    answered, asked, count_of, count_parting, count_wanted, credit_of, detach_link, drop_left, drop_wanted_receiver,
     drop_wanted_receivers, failed, first_asked_as, first_at, first_numbered, first_to_part,
-    first_wanted, given, handle, is_link_left, is_link_lower, is_link_open, is_link_parting,
+    first_wanted, given, handle, is_link_given, is_link_left, is_link_lower, is_link_open,
     is_link_taking, lowest_free, put_link, told, told_once, wanted,
 };
 use crate::path::{AttachDue, AttachFault, AttachHeard, FlowDue, PathLink, PathOk};
@@ -281,8 +282,8 @@ impl PathLinks {
         };
         let l = *l;
         self.handles.detach_read(handle(l.stage));
+        detach_link(&mut self.links, l, &self.sending);
         remove_one(&mut self.sending, l.link);
-        detach_link(&mut self.links, l);
     }
 
     /// A transfer passed a limit of the receiving link that this handle of the container names.
@@ -489,32 +490,19 @@ impl PathLinks {
     }
 }
 
-fn credit_of(sending: &SendLinks, link: u32) -> u32
-    ensures { result ≡ credit_in (link_of sending.now link) }
-{
-    match sending.get(link) {
-        Some(state) => state.credit(),
-        None => 0,
-    }
-}
-
-fn count_of(sending: &SendLinks, link: u32) -> u32
-    ensures { result ≡ count_in (link_of sending.now link) }
-{
-    match sending.get(link) {
-        Some(state) => state.count(),
-        None => 0,
-    }
-}
-
 fn flow_due(sending: &SendLinks, l: PathLink) -> FlowDue
     ensures { result ≡ flow_due sending.now l }
 {
+    let (count, credit) = if is_link_left(&l) {
+        (l.count, l.credit)
+    } else {
+        (count_of(sending, l.link), credit_of(sending, l.link))
+    };
     FlowDue {
         link: l.link,
         handle: handle(l.stage),
-        count: count_of(sending, l.link),
-        credit: credit_of(sending, l.link),
+        count,
+        credit,
         drains: l.echoes == 0,
         draining: l.draining,
     }
@@ -523,7 +511,7 @@ fn flow_due(sending: &SendLinks, l: PathLink) -> FlowDue
 fn is_owing(l: &PathLink, publishes: &Publishes, sending: &SendLinks) -> bool
     ensures { result ≡ owes_flow publishes.now.list sending.now l.now }
 {
-    if is_link_parting(l) {
+    if is_link_given(l) {
         return false;
     }
     l.echoes > 0 || l.drains > 0 && (!publishes.waits(l.link) || credit_of(sending, l.link) == 0)
