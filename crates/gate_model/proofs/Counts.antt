@@ -1,6 +1,6 @@
 -- A flow of a sending link states the delivery-count and the credit that the fold over the steps leaves.
 use Rattle.std.proofs.Common.{◌≡◌, ◌∙◌, ℕ, ◌+◌, ◌%◌, ◌^◌, ◌==◌, not, ◌&&◌, Bool, true, false, if◌then◌else◌, List, [], ◌∷◌}
-use Rattle.std.proofs.Common.{Option, Some, None, refl, sym, subst, ap, arith}
+use Rattle.std.proofs.Common.{Option, Some, None, refl, sym, subst, ap, arith, cond}
 use Rattle.std.specs.Prelude.{IfSome, find}
 use Rattle.open_items.proofs.Filtered.{all_find}
 use Rattle.links_10.specs.Send.{new_link}
@@ -8,10 +8,10 @@ use Rattle.links_10.specs.declared.send.Sending.{Sending}
 use Rattle.publish_path.specs.Links.{link_of}
 use Rattle.publish_path.specs.declared.send_links.SendingLink.{SendingLink}
 use Rattle.consume_path.specs.declared.receiving.NextGrant.{NextGrant}
-use Rattle.session_path.specs.Due.{count_in, due_in, flow_due, grant_due, next_flow}
+use Rattle.session_path.specs.Due.{due_in, flow_due, grant_due, next_flow}
 use Rattle.session_path.specs.Events.{PathEvent, after_events}
-use Rattle.session_path.specs.Links.{handle_in, handle_of, has_number, is_parting, is_stage_wanted}
-use Rattle.session_path.specs.Path.{PathState, credit_in, flow_of, grant_in, granting, granting_on, is_grant_next, owes_flow}
+use Rattle.session_path.specs.Links.{count_in, credit_in, handle_in, handle_of, has_number, is_given, is_left, is_stage_given, is_stage_left, is_stage_wanted}
+use Rattle.session_path.specs.Path.{PathState, flow_of, grant_in, granting, granting_on, is_grant_next, owes_flow}
 use Rattle.session_path.specs.declared.path.FlowDue.{FlowDue}
 use Rattle.session_path.specs.declared.path.PathLink.{PathLink}
 use Rattle.session_path.specs.declared.path.Stage.{Stage}
@@ -36,7 +36,7 @@ use Rattle.gate_model.proofs.Fates.{IsLived, lived}
 use Rattle.gate_model.proofs.Firsts.{OfSession, goes_up_as}
 use Rattle.gate_model.proofs.Granting.{DeliveriesAre, owes_none}
 use Rattle.gate_model.proofs.Heard.{ClosedAre, are_heard, is_kept}
-use Rattle.gate_model.proofs.LinkCredits.{Agree, AllAgree, AtStage, HasAsked, IsKept, agree_role, role_in, still_receives}
+use Rattle.gate_model.proofs.LinkCredits.{Agree, AllAgree, AtEnd, AtStage, HasAsked, IsKept, IsOver, agree_role, role_in}
 use Rattle.gate_model.proofs.LinkRoles.{grants_receive}
 use Rattle.gate_model.proofs.LinkRooms.{have_room}
 use Rattle.gate_model.proofs.LinkSteps.{IsDue, agrees, is_due}
@@ -133,16 +133,50 @@ module _ (f : ℕ → Option Credit) (s : PathState) (t : Tied s.links) (all : A
       off : is_stage_wanted l.stage ≡ false
       off = wanted (is_stage_wanted l.stage) refl
 
-      stays : (p owes : Bool) → (not p && owes) ≡ true → p ≡ false
-      stays true owes i = absurd cc
-      stays false owes i = refl
+      ungiven : (p owes : Bool) → (not p && owes) ≡ true → p ≡ false
+      ungiven true owes i = absurd cc
+      ungiven false owes i = refl
+
+      -- by whether the container detached it
+      abbrev OfLink : Bool → Type 0
+      OfLink left = Known f (handle_of l.stage) (cond left l.count (count_in (link_of s.links.sending l.link))) (cond left l.credit (credit_in (link_of s.links.sending l.link))) (l.echoes == 0)
+
+      of_kept : (x : SendingLink) → link_of s.links.sending l.link ≡ Some x → Known f (handle_of l.stage) x.state.count x.state.credit (l.echoes == 0) → (b : Bool) → is_left l ≡ b → b ≡ false → OfLink b
+      of_kept x g k true e off = absurd cc
+      of_kept x g k false e off = subst (λ (o : Option SendingLink). Known f (handle_of l.stage) (count_in o) (credit_in o) (l.echoes == 0)) (sym g) k
+
+      not_left : (x : SendingLink) (g : Stage) → AtStage f s.links.handles x g → is_stage_left g ≡ false
+      not_left x stage.Wanted i = refl
+      not_left x (stage.Asked j) i = refl
+      not_left x (stage.Open j) i = refl
+      not_left x (stage.Refused j) i = refl
+      not_left x (stage.Left j) i = absurd i
+      not_left x (stage.Given j) i = refl
+      not_left x (stage.Failed j fault) i = refl
+
+      over_known : (j : ℕ) → IsOver f l.link l.count l.credit j → Known f j l.count l.credit (l.echoes == 0)
+      over_known j o = record { kept = o.credit; is = o.is; stated = λ sends. stated_by o.credit l.count l.credit (l.echoes == 0) o.states (o.low, o.exact) }
+
+      -- one that sends without a credit that is kept
+      of_over : (g : Stage) → AtEnd f l.link l.count l.credit l.receives g → l.receives ≡ false → is_stage_given g ≡ false
+          → (is_stage_left g ≡ true) × Known f (handle_of g) l.count l.credit (l.echoes == 0)
+      of_over stage.Wanted i role off = absurd (no_clash l.receives i role)
+      of_over (stage.Asked j) i role off = absurd (no_clash l.receives i role)
+      of_over (stage.Open j) i role off = absurd (no_clash l.receives i role)
+      of_over (stage.Refused j) i role off = absurd (no_clash l.receives i role)
+      of_over (stage.Left j) i role off = (refl, over_known j (i role))
+      of_over (stage.Given j) i role off = absurd cc
+      of_over (stage.Failed j fault) i role off = absurd (no_clash l.receives i role)
+
+      by_role : (b : Bool) → l.receives ≡ b → Agree f s.links.handles None (Some l) → OfLink (is_left l)
+      by_role true r i = known_role f (handle_of l.stage) _ _ (l.echoes == 0) (agree_role f s.links.handles None l (handle_of l.stage) (there_at l.stage off) i ∙ ap Some r)
+      by_role false r i =
+          let k = of_over l.stage i.1 r (ungiven (is_given l) _ passes) in
+          subst OfLink (sym k.0) k.1
 
       by : (o : Option SendingLink) → link_of s.links.sending l.link ≡ o → Agree f s.links.handles o (Some l) → KnownOf (flow_due s.links.sending l)
-      by None g i =
-          known_role f (handle_of l.stage) _ _ (l.echoes == 0)
-          (agree_role f s.links.handles None l (handle_of l.stage) (there_at l.stage off) i ∙ ap Some (still_receives l i.1 (stays (is_parting l) _ passes)))
-      by (Some x) g i =
-          subst (λ (o : Option SendingLink). Known f (handle_of l.stage) (count_in o) (credit_in o) (l.echoes == 0)) (sym g) (staged l x (l.echoes == 0) l.stage off i.0 i.1.1)
+      by None g i = by_role l.receives refl i
+      by (Some x) g i = of_kept x g (staged l x (l.echoes == 0) l.stage off i.0 i.1.1) (is_left l) refl (not_left x l.stage i.1.1)
 
   -- a grant is of a link that receives
   grants : ((l : PathLink) → granting s ≡ Some l → is_up l.stage ≡ true)

@@ -154,9 +154,9 @@ module _ (n : ℕ) where
   detaches None s t ne w = w
   detaches (Some l) s t ne w = by (is_given l)
     where
-      by : (b : Bool) → Whole (cond b (dropped l.link s.links) (put (left_by l) s.links))
+      by : (b : Bool) → Whole (cond b (dropped l.link s.links) (put (left_by s.sending l) s.links))
       by true = left_whole (λ k. not (has_number l.link k)) s.links (λ k same c. ap not (ne_to k.link l.link (λ i. no_clash (l.link == n) (eq_to l.link n (sym i ∙ same)) ne))) w
-      by false = ap carrier_in (placed_other n (left_by l) s.links ne) ∙ w
+      by false = ap carrier_in (placed_other n (left_by s.sending l) s.links ne) ∙ w
 
   fails : (peer : ℕ) (fault : TransferFault) (s : LinksState) → Tied s → Whole s.links → Whole (link_failed peer fault s).links
   fails peer fault s t w = by (named_by s.handles peer)

@@ -56,6 +56,7 @@ is_given x = false
 abbrev pub is_answer : PathEvent → Bool
 is_answer (event.AttachCame attach) = true
 is_answer (event.FlowCame peer count credit drain echo) = true
+is_answer (event.DetachCame peer not_found) = true
 is_answer x = false
 
 -- a step that gives the container a unit
@@ -122,22 +123,17 @@ module _ (P : PathEvent → Type 0) (each : (x : PathEvent) → is_given x ≡ f
   want_all rs limit n (want.Refuse r) = if_all (is_of_channel r) _ _ (if_all (r.channel == n) _ _ (each _ refl refl, tt) tt) (each _ refl refl, tt)
   want_all rs limit n x = tt
 
-  transfer_all : (o : Option TransferFault) (limit n peer : ℕ) (x : Parts) (payload : List ℕ) (s : PathState)
+  pub transfer_all : (o : Option TransferFault) (limit n peer : ℕ) (x : Parts) (payload : List ℕ) (s : PathState)
       → All (transfer_event o limit n peer (part_in x.1) payload s ∷ [])
   transfer_all None limit n peer x payload s = (each _ refl refl, tt)
   transfer_all (Some fault) limit n peer x payload s = (each _ refl refl, tt)
 
-  -- what comes besides begins, attaches and flows
-  pub rest_all : (limit n : ℕ) (x : Parts) (payload : List ℕ) (s : PathState)
-      → All (if x.0 == 20 then transfer_event (fault_in x.1 payload s) limit n (number_at x.1 0) (part_in x.1) payload s ∷ []
-      else if x.0 == 21 then (if is_outcome x.1 then event.DispositionCame (number_at x.1 1) (number_in (field x.1 2)) (outcome_in (field x.1 4)) (is_true (field x.1 3)) ∷ [] else [])
-      else if x.0 == 22 then event.DetachCame (number_at x.1 0) (is_not_found (condition_in (field x.1 2))) ∷ []
-      else if x.0 == 23 then event.SessionLost ∷ []
-      else [])
-  rest_all limit n x payload s =
-      if_all (x.0 == 20) _ _ (transfer_all (fault_in x.1 payload s) limit n (number_at x.1 0) x payload s)
-      (if_all (x.0 == 21) _ _ (if_all (is_outcome x.1) _ _ (each _ refl refl, tt) tt)
-      (if_all (x.0 == 22) _ _ (each _ refl refl, tt) (if_all (x.0 == 23) _ _ (each _ refl refl, tt) tt)))
+  pub outcome_all : (x : Parts)
+      → All (if is_outcome x.1 then event.DispositionCame (number_at x.1 1) (number_in (field x.1 2)) (outcome_in (field x.1 4)) (is_true (field x.1 3)) ∷ [] else [])
+  outcome_all x = if_all (is_outcome x.1) _ _ (each _ refl refl, tt) tt
+
+  pub lost_all : (b : Bool) → All (if b then event.SessionLost ∷ [] else [])
+  lost_all b = if_all b _ _ (each _ refl refl, tt) tt
 
   reply_all : (n : ℕ) (u : Reply) → All (reply_events n u)
   reply_all n (reply.OnChannel k u) = if_all (k == n) _ _ (told u, tt) tt
@@ -193,7 +189,9 @@ module _ (P : PathEvent → Type 0) (each : (x : PathEvent) → is_given x ≡ f
     heard_all limit n x payload s =
         if_all (x.0 == 17) _ _ (each _ refl refl, tt)
         (if_all (x.0 == 18) _ _ (attach_all (name_in (text_of (field x.1 0))) x.1)
-        (if_all (x.0 == 19 && not (is_of_session x.1)) _ _ (came _ refl, tt) (rest_all limit n x payload s)))
+        (if_all (x.0 == 19 && not (is_of_session x.1)) _ _ (came _ refl, tt)
+        (if_all (x.0 == 20) _ _ (transfer_all (fault_in x.1 payload s) limit n (number_at x.1 0) x payload s)
+        (if_all (x.0 == 21) _ _ (outcome_all x) (if_all (x.0 == 22) _ _ (came _ refl, tt) (lost_all (x.0 == 23)))))))
 
     session_all : (c : Connection) (o : Option Scope) (n k : ℕ) (x : Parts) (payload : List ℕ) (s : PathState) → All (session_events c o n k x payload s)
     session_all c None n k x payload s =
@@ -218,6 +216,7 @@ module _ (P : PathEvent → Type 0) (each : (x : PathEvent) → is_given x ≡ f
 ungiven : (x : PathEvent) → is_answer x ≡ true → is_given x ≡ false
 ungiven (event.AttachCame attach) e = refl
 ungiven (event.FlowCame peer count credit drain echo) e = refl
+ungiven (event.DetachCame peer not_found) e = refl
 ungiven x e = absurd cc
 
 pub step_all : (P : PathEvent → Type 0) → ((x : PathEvent) → is_given x ≡ false → P x) → (n : ℕ) (h : List Step) (s : Step) → gives_up s ≡ false

@@ -104,7 +104,7 @@ granted_by credits counts life es g calls e =
 
 -- a link that is owed none
 pub owes_none : (list : List Publish) (sending : List SendingLink) (l : PathLink) → l.echoes + l.drains ≡ 0 → owes_flow list sending l ≡ true → ⊥
-owes_none list sending l e f = by (is_parting l) (may_drain list sending l) l.echoes l.drains e f
+owes_none list sending l e f = by (is_given l) (may_drain list sending l) l.echoes l.drains e f
   where
     by : (b m : Bool) (k d : ℕ) → k + d ≡ 0 → (not b && (nat_lt 0 k || (nat_lt 0 d && m))) ≡ true → ⊥
     by b m zero zero g h = none b h

@@ -148,13 +148,9 @@ module _ (f : ℕ → Option ℕ) (s : PathState) (n : NamesIn f s.links) where
               absurd (owes_none s.publishes.list s.links.sending l ((all_find IsFresh (owes_flow s.publishes.list s.links.sending) s.links.links l fresh i).0 w) passes)
           wanted false w = refl
 
-          given : (part owes : Bool) → (not (part || is_stage_given l.stage) && owes) ≡ true → is_stage_given l.stage ≡ false
-          given part owes k = out part (is_stage_given l.stage) (and_left _ owes k)
-            where
-              out : (a b : Bool) → not (a || b) ≡ true → b ≡ false
-              out true b z = absurd cc
-              out false true z = absurd cc
-              out false false z = refl
+          given : (part owes : Bool) → (not part && owes) ≡ true → part ≡ false
+          given true owes k = absurd cc
+          given false owes k = refl
 
       by : (b : Bool) → (if b then grant_due (granting s) (grant_in s) s.deliveries else due_in s.links.sending (flow_of s.publishes.list s.links)) ≡ Some d → f d.link ≡ Some d.handle
       by true i = grants (granting s) refl (grant_in s) i

@@ -28,7 +28,7 @@ use Rattle.session_path.specs.declared.path.Stage.{Stage}
 use Rattle.session_path.specs.declared.path.Stage.TheVariants as stage
 use Rattle.session_path.specs.declared.path.AttachHeard.{AttachHeard}
 use Rattle.session_path.specs.Links.{LinksState, Rises, answered as answered_link, attached_as, attached_if}
-use Rattle.session_path.specs.Links.{at_handle, detached_on, failed_by, failed_on, flowed_on, free_number, given_by, given_on, gone_on}
+use Rattle.session_path.specs.Links.{at_handle, count_in, credit_in, detached_on, failed_by, failed_on, flowed_on, free_number, given_by, given_on, gone_on}
 use Rattle.session_path.specs.Links.{handle_in, handle_of, has_number, is_asked_as, is_at, is_given, is_left}
 use Rattle.session_path.specs.Links.{is_one, is_parting, is_stage_asked, is_stage_at, is_stage_failed, is_stage_given, is_stage_left, is_stage_open, is_stage_whole, is_wanted, is_wanted_receiver, left_by}
 use Rattle.session_path.specs.Links.{link_detached, link_failed, linked_to, meets, named, parted, put}
@@ -40,7 +40,7 @@ use Rattle.session_path.proofs.Wanted.{absent}
 use Rattle.session_path.proofs.SameLinks.{flowed_if}
 use Rattle.session_path.specs.Path.{IsThere, receiver_in}
 use Rattle.consume_path.specs.declared.receiving.TransferFault.{TransferFault}
-use Rattle.gate_model.specs.LinkCredits.{Credit, answered, flowed, is_peer, left}
+use Rattle.gate_model.specs.LinkCredits.{Credit, answered, detached, flowed, is_peer, left}
 use Rattle.gate_model.specs.LinkCredits.{new_credit}
 
 -- ---- what is found in lists
@@ -199,6 +199,19 @@ pub record IsKept (f : ℕ → Option Credit) (t : HandleTable) (x : SendingLink
   pub low : x.state.credit ≤ left credit
   -- all of it, where the container's link-credit is a uint
   pub exact : credit.credit < 2 ^ 32 → x.state.credit ≡ left credit
+  pub stays : credit.ended ≡ false
+
+-- a sending link that the container detached: what it had then, less what was given back
+pub record IsOver (f : ℕ → Option Credit) (link count most h : ℕ) : Type 0 where
+  pub credit : Credit
+  pub is : f h ≡ Some credit
+  pub peer : ℕ
+  pub answers : credit.peer ≡ Some peer
+  pub number : credit.link ≡ link
+  pub states : count ≡ credit.count
+  pub low : most ≤ left credit
+  pub exact : credit.credit < 2 ^ 32 → most ≡ left credit
+  pub over : credit.ended ≡ true
 
 -- none came and none went yet
 abbrev pub IsNew : SendingLink → Type 0
@@ -228,12 +241,22 @@ AtStage f t x (stage.Left h) = ⊥
 AtStage f t x (stage.Given h) = ⊥
 AtStage f t x (stage.Failed h fault) = ⊥
 
--- no credit is kept of one that receives, or that an end detached
-abbrev pub IsSpent : PathLink → Type 0
-IsSpent l = (l.receives || is_parting l) ≡ true
+-- no credit is kept of one that receives, or that an end detached; of a sending one that the
+-- container detached it is at the link
+abbrev pub AtEnd : (ℕ → Option Credit) → ℕ → ℕ → ℕ → Bool → Stage → Type 0
+AtEnd f link count most role stage.Wanted = role ≡ true
+AtEnd f link count most role (stage.Asked h) = role ≡ true
+AtEnd f link count most role (stage.Open h) = role ≡ true
+AtEnd f link count most role (stage.Refused h) = role ≡ true
+AtEnd f link count most role (stage.Left h) = role ≡ false → IsOver f link count most h
+AtEnd f link count most role (stage.Given h) = Unit {0}
+AtEnd f link count most role (stage.Failed h fault) = role ≡ true
+
+abbrev pub IsSpent : (ℕ → Option Credit) → PathLink → Type 0
+IsSpent f l = AtEnd f l.link l.count l.credit l.receives l.stage
 
 abbrev pub Sends : (ℕ → Option Credit) → HandleTable → Option SendingLink → PathLink → Type 0
-Sends f t None l = IsSpent l
+Sends f t None l = IsSpent f l
 Sends f t (Some x) l = (l.receives ≡ false) × AtStage f t x l.stage
 
 -- what is kept of the credit of a link, and the link
@@ -274,29 +297,59 @@ answered_role name peer c = by ((c.name == name) && not (is_some c.peer))
     by false = refl
 
 pub flowed_role : (peer : ℕ) (count : Option ℕ) (credit : ℕ) (c : Credit) → (flowed peer count credit c).receives ≡ c.receives
-flowed_role peer count credit c = by (is_peer peer c.peer)
+flowed_role peer count credit c = by (is_peer peer c.peer && not c.ended)
   where
     by : (b : Bool) → (cond b (record c { stated = or_initial count; credit = credit }) c).receives ≡ c.receives
     by true = refl
     by false = refl
 
+pub detached_role : (peer : ℕ) (c : Credit) → (detached peer c).receives ≡ c.receives
+detached_role peer c = by (is_peer peer c.peer)
+  where
+    by : (b : Bool) → (cond b (record c { ended = true }) c).receives ≡ c.receives
+    by true = refl
+    by false = refl
+
 -- one that no end detached receives, where no credit is kept of it
-pub still_receives : (l : PathLink) → IsSpent l → is_parting l ≡ false → l.receives ≡ true
-still_receives l e off = by l.receives (is_parting l) e off
-  where
-    by : (r p : Bool) → (r || p) ≡ true → p ≡ false → r ≡ true
-    by true p f g = refl
-    by false p f g = absurd (no_clash p f g)
+pub still_receives : (f : ℕ → Option Credit) (link count most : ℕ) (role : Bool) (g : Stage) → AtEnd f link count most role g
+    → ((is_stage_left g || is_stage_failed g) || is_stage_given g) ≡ false → role ≡ true
+still_receives f link count most role stage.Wanted e off = e
+still_receives f link count most role (stage.Asked h) e off = e
+still_receives f link count most role (stage.Open h) e off = e
+still_receives f link count most role (stage.Refused h) e off = e
+still_receives f link count most role (stage.Left h) e off = absurd cc
+still_receives f link count most role (stage.Given h) e off = absurd cc
+still_receives f link count most role (stage.Failed h fault) e off = absurd cc
 
-pub spent_by_role : (x : PathLink) → x.receives ≡ true → IsSpent x
-spent_by_role x e = ap (λ (b : Bool). b || is_parting x) e
+pub spent_by_role : (f : ℕ → Option Credit) (link count most : ℕ) (role : Bool) (g : Stage) → role ≡ true → AtEnd f link count most role g
+spent_by_role f link count most role stage.Wanted e = e
+spent_by_role f link count most role (stage.Asked h) e = e
+spent_by_role f link count most role (stage.Open h) e = e
+spent_by_role f link count most role (stage.Refused h) e = e
+spent_by_role f link count most role (stage.Left h) e = λ sends. absurd (no_clash role e sends)
+spent_by_role f link count most role (stage.Given h) e = tt
+spent_by_role f link count most role (stage.Failed h fault) e = e
 
-pub spent_by_end : (x : PathLink) → is_parting x ≡ true → IsSpent x
-spent_by_end x e = by x.receives (is_parting x) e
-  where
-    by : (r p : Bool) → p ≡ true → (r || p) ≡ true
-    by true p f = refl
-    by false p f = f
+-- where the fold says the same of the handle of one that the container detached
+pub spent_on : (f g : ℕ → Option Credit) (link count most : ℕ) (role : Bool) (s : Stage) → ((h : ℕ) → handle_in s ≡ Some h → role ≡ false → IsOver f link count most h → g h ≡ f h)
+    → AtEnd f link count most role s → AtEnd g link count most role s
+spent_on f g link count most role stage.Wanted same e = e
+spent_on f g link count most role (stage.Asked h) same e = e
+spent_on f g link count most role (stage.Open h) same e = e
+spent_on f g link count most role (stage.Refused h) same e = e
+spent_on f g link count most role (stage.Left h) same e = λ sends. let o = e sends in record {
+  credit = o.credit;
+  is = same h refl sends o ∙ o.is;
+  peer = o.peer;
+  answers = o.answers;
+  number = o.number;
+  states = o.states;
+  low = o.low;
+  exact = o.exact;
+  over = o.over;
+}
+spent_on f g link count most role (stage.Given h) same e = tt
+spent_on f g link count most role (stage.Failed h fault) same e = e
 
 -- ---- the links that a change leaves
 
@@ -319,6 +372,7 @@ kept_on f g t u x h same k = record {
   count = k.count;
   low = k.low;
   exact = k.exact;
+  stays = k.stays;
 }
 
 -- so the link with it stays as it was
@@ -343,7 +397,8 @@ stage_on f g t u x (stage.Failed h fault) same i = i
 pub agree_on : (f g : ℕ → Option Credit) (t u : HandleTable) (o : Option SendingLink) (p : Option PathLink)
     → ((l : PathLink) → p ≡ Some l → (h : ℕ) → handle_in l.stage ≡ Some h → Same f g t u h) → Agree f t o p → Agree g u o p
 agree_on f g t u o None same a = a
-agree_on f g t u None (Some l) same a = (asked_on f g t u l.link l.name l.receives l.stage (same l refl) a.0, a.1)
+agree_on f g t u None (Some l) same a =
+    (asked_on f g t u l.link l.name l.receives l.stage (same l refl) a.0, spent_on f g l.link l.count l.credit l.receives l.stage (λ h is sends over. (same l refl h is).fold) a.1)
 agree_on f g t u (Some x) (Some l) same a = (asked_on f g t u l.link l.name l.receives l.stage (same l refl) a.0, (a.1.0, stage_on f g t u x l.stage (same l refl) a.1.1))
 
 -- links that are found have one handle only if they are one
@@ -565,6 +620,7 @@ module _ (f : ℕ → Option Credit) (a : AttachHeard) (s : LinksState) (l : Pat
     count = k.count;
     low = k.low;
     exact = k.exact;
+    stays = k.stays;
   }
 
   stage_other : (x : SendingLink) (g' : Stage) → ((j : ℕ) → handle_in g' ≡ Some j → (h == j) ≡ false) → AtStage f s.handles x g' → AtStage g u x g'
@@ -579,7 +635,11 @@ module _ (f : ℕ → Option Credit) (a : AttachHeard) (s : LinksState) (l : Pat
   agree_other : (o : Option SendingLink) (p : Option PathLink) → ((k : PathLink) → p ≡ Some k → (j : ℕ) → handle_in k.stage ≡ Some j → (h == j) ≡ false)
       → Agree f s.handles o p → Agree g u o p
   agree_other o None ne i = i
-  agree_other None (Some k) ne i = (asked_other k.link k.name k.receives k.stage (ne k refl) i.0, i.1)
+  agree_other None (Some k) ne i = (
+    asked_other k.link k.name k.receives k.stage (ne k refl) i.0,
+    spent_on f g k.link k.count k.credit k.receives k.stage
+        (λ j is sends o. ap (option_map (answered a.name a.peer)) o.is ∙ ap Some (answered_stays a.name a.peer o.peer o.credit o.answers) ∙ sym o.is) i.1,
+  )
   agree_other (Some x) (Some k) ne i = (asked_other k.link k.name k.receives k.stage (ne k refl) i.0, (i.1.0, stage_other x k.stage (ne k refl) i.1.1))
 
   -- the link itself
@@ -605,6 +665,7 @@ module _ (f : ℕ → Option Credit) (a : AttachHeard) (s : LinksState) (l : Pat
     count = ap (λ (y : Sending). y.count) e;
     low = subst (λ (y : Sending). y.credit ≤ left (record (new_credit l.link l.name l.receives) { peer = Some a.peer })) (sym e) (omega arith);
     exact = λ uint. subst (λ (y : Sending). y.credit ≡ left (record (new_credit l.link l.name l.receives) { peer = Some a.peer })) (sym e) (omega arith);
+    stays = refl;
   }
 
   new_state : (x : SendingLink) → AtStage f s.handles x l.stage → x.state ≡ new_link
@@ -614,12 +675,14 @@ module _ (f : ℕ → Option Credit) (a : AttachHeard) (s : LinksState) (l : Pat
   role_now = role_mapped (answered a.name a.peer) (answered_role a.name a.peer) (f h) l.receives (ap role_in was_asked)
 
   -- it was to be neither detached nor failed
-  spent_now : (x : PathLink) → x.receives ≡ l.receives → IsSpent l → IsSpent x
-  spent_now x same e = spent_by_role x (same ∙ still_receives l e (ap (λ (q : Stage). (is_stage_left q || is_stage_failed q) || is_stage_given q) staged))
+  spent_now : (q : Stage) → IsSpent f l → AtEnd g l.link l.count l.credit l.receives q
+  spent_now q e =
+      spent_by_role g l.link l.count l.credit l.receives q
+      (still_receives f l.link l.count l.credit l.receives l.stage e (ap (λ (x : Stage). (is_stage_left x || is_stage_failed x) || is_stage_given x) staged))
 
   agree_here : (there : Bool) (o : Option SendingLink) → ((x : SendingLink) → o ≡ Some x → x.link ≡ l.link) → Agree f s.handles o (Some l) → Agree g u (cond there (option_map (now_attached l.link) o) o) (Some (answered_link there l))
-  agree_here true None number i = (role_now, spent_now (answered_link true l) refl i.1)
-  agree_here false None number i = (role_now, spent_now (answered_link false l) refl i.1)
+  agree_here true None number i = (role_now, spent_now (stage.Open h) i.1)
+  agree_here false None number i = (role_now, spent_now (stage.Refused h) i.1)
   agree_here true (Some x) number i = (role_now, (i.1.0, kept_now (now_attached l.link x) (number x refl) (new_state x i.1.1)))
   agree_here false (Some x) number i = (role_now, (i.1.0, kept_now x (number x refl) (new_state x i.1.1)))
 
@@ -667,25 +730,83 @@ some_link l k e = cc
 peer_same : (peer p : ℕ) (c : Credit) → c.peer ≡ Some p → is_peer peer c.peer ≡ (p == peer)
 peer_same peer p c e = ap (is_peer peer) e
 
-module _ (f : ℕ → Option Credit) (peer : ℕ) (count : Option ℕ) (credit : ℕ) (s : LinksState) (t : Tied s) (all : AllAgree f s) where
-  abbrev flow_fold : ℕ → Option Credit
-  flow_fold k = option_map (flowed peer count credit) (f k)
+-- none sends at a handle that no link has, or a receiving one
+none_sends : (s : LinksState) (h : ℕ) → find (is_at h) s.links ≡ None → (n : ℕ) (k : PathLink) → find (has_number n) s.links ≡ Some k → k.receives ≡ false → (j : ℕ) → is_stage_at j k.stage ≡ true
+    → (h == j) ≡ false
+none_sends s h none n k is sends j at =
+    let no : is_at h k ≡ false = (all_find (λ x. is_at h x ≡ false) (has_number n) s.links k (none_passes (is_at h) s.links none) is).0 in
+    ne_to h j (λ same. no_clash (is_at h k) (subst (λ (m : ℕ). is_stage_at m k.stage ≡ true) (sym same) at) no)
 
-  flow_new : (link name : ℕ) (role : Bool) (g : Stage) → HasAsked f link name role g → HasAsked flow_fold link name role g
-  flow_new link name role stage.Wanted i = i
-  flow_new link name role (stage.Asked j) i = ap (option_map (flowed peer count credit)) i
-  flow_new link name role (stage.Open j) i = role_mapped (flowed peer count credit) (flowed_role peer count credit) (f j) role i
-  flow_new link name role (stage.Refused j) i = role_mapped (flowed peer count credit) (flowed_role peer count credit) (f j) role i
-  flow_new link name role (stage.Left j) i = role_mapped (flowed peer count credit) (flowed_role peer count credit) (f j) role i
-  flow_new link name role (stage.Given j) i = role_mapped (flowed peer count credit) (flowed_role peer count credit) (f j) role i
-  flow_new link name role (stage.Failed j fault) i = role_mapped (flowed peer count credit) (flowed_role peer count credit) (f j) role i
+receiver_alone : (s : LinksState) → Tied s → (h : ℕ) (l : PathLink) → find (is_at h) s.links ≡ Some l → l.receives ≡ true → (n : ℕ) (k : PathLink) → find (has_number n) s.links ≡ Some k → k.receives ≡ false
+    → (j : ℕ) → is_stage_at j k.stage ≡ true → (h == j) ≡ false
+receiver_alone s t h l e role n k is sends j at = by (l.link == n) refl
+  where
+    by : (b : Bool) → (l.link == n) ≡ b → (h == j) ≡ false
+    by false ne = apart (is_at h) n s l k t e is ne h j (is_at_handle h l.stage (found_passes (is_at h) s.links l e)) (is_at_handle j k.stage at)
+    by true e' =
+        let own : find (has_number n) s.links ≡ Some l = subst (λ (m : ℕ). find (has_number m) s.links ≡ Some l) (eq_of l.link n e') (found_number (is_at h) s.links l t.rising e) in
+        let same : l ≡ k = some_link l k (sym own ∙ is) in
+        absurd (no_clash l.receives role (ap (λ (x : PathLink). x.receives) same ∙ sends))
+
+-- what a flow or a detach under this handle of the container does to what the fold says
+record IsMark (peer : ℕ) (c : Credit → Credit) : Type 0 where
+  role : (x : Credit) → (c x).receives ≡ x.receives
+  new : (link name : ℕ) (role : Bool) → c (new_credit link name role) ≡ new_credit link name role
+  apart : (x : Credit) (p : ℕ) → x.peer ≡ Some p → (p == peer) ≡ false → c x ≡ x
+  over : (x : Credit) → x.ended ≡ true → c x ≡ x
+
+flow_mark : (peer : ℕ) (count : Option ℕ) (credit : ℕ) → IsMark peer (flowed peer count credit)
+flow_mark peer count credit = record { role = flowed_role peer count credit; new = λ link name role. refl; apart = apart_flow; over = over_flow }
+  where
+    kept : (x : Credit) (b : Bool) → (is_peer peer x.peer && not x.ended) ≡ b → b ≡ false → flowed peer count credit x ≡ x
+    kept x true e off = absurd cc
+    kept x false e off = ap (λ (c : Bool). cond c (record x { stated = or_initial count; credit = credit }) x) e
+
+    both : (a b : Bool) → b ≡ false → (a && b) ≡ false
+    both true b e = e
+    both false b e = refl
+
+    apart_flow : (x : Credit) (p : ℕ) → x.peer ≡ Some p → (p == peer) ≡ false → flowed peer count credit x ≡ x
+    apart_flow x p e ne = kept x _ refl (ap (λ (b : Bool). b && not x.ended) (peer_same peer p x e ∙ ne))
+
+    over_flow : (x : Credit) → x.ended ≡ true → flowed peer count credit x ≡ x
+    over_flow x e = kept x _ refl (both (is_peer peer x.peer) (not x.ended) (ap not e))
+
+detach_mark : (peer : ℕ) → IsMark peer (detached peer)
+detach_mark peer = record { role = detached_role peer; new = λ link name role. refl; apart = apart_detach; over = λ x e. over_detach x (is_peer peer x.peer) e }
+  where
+    apart_detach : (x : Credit) (p : ℕ) → x.peer ≡ Some p → (p == peer) ≡ false → detached peer x ≡ x
+    apart_detach x p e ne = ap (λ (b : Bool). cond b (record x { ended = true }) x) (peer_same peer p x e ∙ ne)
+
+    over_detach : (x : Credit) (b : Bool) → x.ended ≡ true → cond b (record x { ended = true }) x ≡ x
+    over_detach x true e = ap (λ (d : Bool). record x { ended = d }) (sym e)
+    over_detach x false e = refl
+
+module _ (f : ℕ → Option Credit) (peer : ℕ) (c : Credit → Credit) (m : IsMark peer c) (s : LinksState) (all : AllAgree f s) where
+  abbrev mark_fold : ℕ → Option Credit
+  mark_fold k = option_map c (f k)
+
+  mark_role : (j : ℕ) (role : Bool) → role_in (f j) ≡ Some role → role_in (mark_fold j) ≡ Some role
+  mark_role j role i = role_mapped c m.role (f j) role i
+
+  mark_new : (link name : ℕ) (role : Bool) (g : Stage) → HasAsked f link name role g → HasAsked mark_fold link name role g
+  mark_new link name role stage.Wanted i = i
+  mark_new link name role (stage.Asked j) i = ap (option_map c) i ∙ ap Some (m.new link name role)
+  mark_new link name role (stage.Open j) i = mark_role j role i
+  mark_new link name role (stage.Refused j) i = mark_role j role i
+  mark_new link name role (stage.Left j) i = mark_role j role i
+  mark_new link name role (stage.Given j) i = mark_role j role i
+  mark_new link name role (stage.Failed j fault) i = mark_role j role i
+
+  -- of one that the container detached nothing changes
+  mark_spent : (link count most : ℕ) (role : Bool) (g : Stage) → AtEnd f link count most role g → AtEnd mark_fold link count most role g
+  mark_spent link count most role g e = spent_on f mark_fold link count most role g (λ h is sends o. ap (option_map c) o.is ∙ ap Some (m.over o.credit o.over) ∙ sym o.is) e
 
   -- on another link of the container
-  kept_apart : (j : ℕ) (x : SendingLink) → ((p : ℕ) → IsNamed s.handles p j → (p == peer) ≡ false) → IsKept f s.handles x j → IsKept flow_fold s.handles x j
+  kept_apart : (j : ℕ) (x : SendingLink) → ((p : ℕ) → IsNamed s.handles p j → (p == peer) ≡ false) → IsKept f s.handles x j → IsKept mark_fold s.handles x j
   kept_apart j x ne k = record {
     credit = k.credit;
-    is = ap (option_map (flowed peer count credit)) k.is
-        ∙ ap (λ (b : Bool). Some (cond b (record k.credit { stated = or_initial count; credit = credit }) k.credit)) (peer_same peer k.peer k.credit k.answers ∙ ne k.peer k.names);
+    is = ap (option_map c) k.is ∙ ap Some (m.apart k.credit k.peer k.answers (ne k.peer k.names));
     peer = k.peer;
     answers = k.answers;
     names = k.names;
@@ -693,9 +814,10 @@ module _ (f : ℕ → Option Credit) (peer : ℕ) (count : Option ℕ) (credit :
     count = k.count;
     low = k.low;
     exact = k.exact;
+    stays = k.stays;
   }
 
-  stage_apart : (x : SendingLink) (g : Stage) → ((j p : ℕ) → is_stage_at j g ≡ true → IsNamed s.handles p j → (p == peer) ≡ false) → AtStage f s.handles x g → AtStage flow_fold s.handles x g
+  stage_apart : (x : SendingLink) (g : Stage) → ((j p : ℕ) → is_stage_at j g ≡ true → IsNamed s.handles p j → (p == peer) ≡ false) → AtStage f s.handles x g → AtStage mark_fold s.handles x g
   stage_apart x stage.Wanted ne i = i
   stage_apart x (stage.Asked j) ne i = i
   stage_apart x (stage.Open j) ne i = kept_apart j x (λ p. ne j p (eq_to j j refl)) i
@@ -705,46 +827,60 @@ module _ (f : ℕ → Option Credit) (peer : ℕ) (count : Option ℕ) (credit :
   stage_apart x (stage.Failed j fault) ne i = i
 
   agree_apart : (o : Option SendingLink) (p : Option PathLink) → ((k : PathLink) → p ≡ Some k → k.receives ≡ false → (j q : ℕ) → is_stage_at j k.stage ≡ true → IsNamed s.handles q j → (q == peer) ≡ false)
-      → Agree f s.handles o p → Agree flow_fold s.handles o p
+      → Agree f s.handles o p → Agree mark_fold s.handles o p
   agree_apart o None ne i = i
-  agree_apart None (Some k) ne i = (flow_new k.link k.name k.receives k.stage i.0, i.1)
-  agree_apart (Some x) (Some k) ne i = (flow_new k.link k.name k.receives k.stage i.0, (i.1.0, stage_apart x k.stage (ne k refl i.1.0) i.1.1))
+  agree_apart None (Some k) ne i = (mark_new k.link k.name k.receives k.stage i.0, mark_spent k.link k.count k.credit k.receives k.stage i.1)
+  agree_apart (Some x) (Some k) ne i = (mark_new k.link k.name k.receives k.stage i.0, (i.1.0, stage_apart x k.stage (ne k refl i.1.0) i.1.1))
 
   -- none is named
-  unnamed_agree : named_by s.handles peer ≡ None → AllAgree flow_fold s
+  unnamed_agree : named_by s.handles peer ≡ None → AllAgree mark_fold s
   unnamed_agree none n =
       agree_apart (link_of s.sending n) (find (has_number n) s.links)
       (λ k e r j q has is. ne_to q peer (λ same. none_named s.handles peer none j (subst (λ (x : ℕ). is_named x (state_of s.handles j) ≡ true) same is.here))) (all n)
 
   module _ (h : ℕ) (handle : named_by s.handles peer ≡ Some h) where
-    abbrev with_flow : SendingLink → SendingLink
-    with_flow x = record x { state = after_flow count credit x.state }
-
-    named_here : is_named peer (state_of s.handles h) ≡ true
-    named_here = (position-Some (is_named peer) s.handles.states h state.Free handle).1
-
     -- only its handle stands for this one of the container
     only_handle : (j q : ℕ) → IsNamed s.handles q j → (h == j) ≡ false → (q == peer) ≡ false
     only_handle j q is ne = ne_to q peer (λ same. no_clash (h == j) (eq_to h j (some_is h j (sym handle ∙ ap (named_by s.handles) (sym same) ∙ named_is s.handles q j is))) ne)
 
     -- no link is at it that sends
-    empty_agree : ((n : ℕ) (k : PathLink) → find (has_number n) s.links ≡ Some k → k.receives ≡ false → (j : ℕ) → is_stage_at j k.stage ≡ true → (h == j) ≡ false) → AllAgree flow_fold s
+    empty_agree : ((n : ℕ) (k : PathLink) → find (has_number n) s.links ≡ Some k → k.receives ≡ false → (j : ℕ) → is_stage_at j k.stage ≡ true → (h == j) ≡ false) → AllAgree mark_fold s
     empty_agree none n =
         agree_apart (link_of s.sending n) (find (has_number n) s.links) (λ k e r j q has is. only_handle j q is (none n k e r j has)) (all n)
 
+    -- another link than the one that is at it
+    others_apart : (l : PathLink) → Tied s → find (is_at h) s.links ≡ Some l → (n : ℕ) → (l.link == n) ≡ false → Agree mark_fold s.handles (link_of s.sending n) (find (has_number n) s.links)
+    others_apart l t found n ne =
+        agree_apart (link_of s.sending n) (find (has_number n) s.links)
+        (λ k is r j q has names. only_handle j q names
+        (apart (is_at h) n s l k t found is ne h j (is_at_handle h l.stage (found_passes (is_at h) s.links l found)) (is_at_handle j k.stage has))) (all n)
+
+named_here : (s : LinksState) (peer h : ℕ) → named_by s.handles peer ≡ Some h → is_named peer (state_of s.handles h) ≡ true
+named_here s peer h handle = (position-Some (is_named peer) s.handles.states h state.Free handle).1
+
+module _ (f : ℕ → Option Credit) (peer : ℕ) (count : Option ℕ) (credit : ℕ) (s : LinksState) (t : Tied s) (all : AllAgree f s) where
+  abbrev flow_fold : ℕ → Option Credit
+  flow_fold k = option_map (flowed peer count credit) (f k)
+
+  mark : IsMark peer (flowed peer count credit)
+  mark = flow_mark peer count credit
+
+  abbrev with_flow : SendingLink → SendingLink
+  with_flow x = record x { state = after_flow count credit x.state }
+
+  module _ (h : ℕ) (handle : named_by s.handles peer ≡ Some h) where
     -- one is
     module _ (l : PathLink) (drain echo : Bool) (found : find (is_at h) s.links ≡ Some l) where
       own_handle : handle_in l.stage ≡ Some h
       own_handle = is_at_handle h l.stage (found_passes (is_at h) s.links l found)
 
-      other_handle : (n : ℕ) → (l.link == n) ≡ false → (k : PathLink) → find (has_number n) s.links ≡ Some k → (j : ℕ) → handle_in k.stage ≡ Some j → (h == j) ≡ false
-      other_handle n ne k e j has = apart (is_at h) n s l k t found e ne h j own_handle has
-
       kept_flowed : (j : ℕ) (x : SendingLink) → is_named peer (state_of s.handles j) ≡ true → IsKept f s.handles x j → IsKept flow_fold s.handles (with_flow x) j
       kept_flowed j x is k = record {
         credit = record k.credit { stated = or_initial count; credit = credit };
         is = ap (option_map (flowed peer count credit)) k.is
-            ∙ ap (λ (b : Bool). Some (cond b (record k.credit { stated = or_initial count; credit = credit }) k.credit)) (peer_same peer k.peer k.credit k.answers ∙ eq_to k.peer peer (one_peer (state_of s.handles j) k.peer peer k.names.here is));
+            ∙ ap (λ (b : Bool). Some (cond (b && not k.credit.ended) (record k.credit { stated = or_initial count; credit = credit }) k.credit))
+            (peer_same peer k.peer k.credit k.answers ∙ eq_to k.peer peer (one_peer (state_of s.handles j) k.peer peer k.names.here is))
+            ∙ ap (λ (b : Bool). Some (cond (not b) (record k.credit { stated = or_initial count; credit = credit }) k.credit)) k.stays;
         peer = k.peer;
         answers = k.answers;
         names = k.names;
@@ -752,22 +888,23 @@ module _ (f : ℕ → Option Credit) (peer : ℕ) (count : Option ℕ) (credit :
         count = k.count;
         low = subst (λ (m : ℕ). left_of (or_initial count) credit x.state.count ≤ left_of (or_initial count) credit m) k.count (omega arith);
         exact = λ uint. ap (left_of (or_initial count) credit) k.count;
+        stays = k.stays;
       }
 
       stage_flowed : (x : SendingLink) (g : Stage) → ((j : ℕ) → handle_in g ≡ Some j → h ≡ j) → is_stage_at h g ≡ true → AtStage f s.handles x g
           → AtStage flow_fold s.handles (with_flow x) g
       stage_flowed x stage.Wanted same at i = absurd cc
       stage_flowed x (stage.Asked j) same at i = absurd cc
-      stage_flowed x (stage.Open j) same at i = kept_flowed j x (subst (λ (m : ℕ). is_named peer (state_of s.handles m) ≡ true) (same j refl) named_here) i
-      stage_flowed x (stage.Refused j) same at i = kept_flowed j x (subst (λ (m : ℕ). is_named peer (state_of s.handles m) ≡ true) (same j refl) named_here) i
+      stage_flowed x (stage.Open j) same at i = kept_flowed j x (subst (λ (m : ℕ). is_named peer (state_of s.handles m) ≡ true) (same j refl) (named_here s peer h handle)) i
+      stage_flowed x (stage.Refused j) same at i = kept_flowed j x (subst (λ (m : ℕ). is_named peer (state_of s.handles m) ≡ true) (same j refl) (named_here s peer h handle)) i
       stage_flowed x (stage.Left j) same at i = i
       stage_flowed x (stage.Given j) same at i = i
       stage_flowed x (stage.Failed j fault) same at i = i
 
       agree_flowed : (o : Option SendingLink) → Agree f s.handles o (Some l) → Agree flow_fold s.handles (option_map with_flow o) (Some (told_by drain echo l))
-      agree_flowed None i = (flow_new l.link l.name l.receives l.stage i.0, i.1)
+      agree_flowed None i = (mark_new f peer _ mark s all l.link l.name l.receives l.stage i.0, mark_spent f peer _ mark s all l.link l.count l.credit l.receives l.stage i.1)
       agree_flowed (Some x) i =
-          (flow_new l.link l.name l.receives l.stage i.0, (i.1.0, stage_flowed x l.stage (λ j has. some_is h j (sym own_handle ∙ has)) (found_passes (is_at h) s.links l found) i.1.1))
+          (mark_new f peer _ mark s all l.link l.name l.receives l.stage i.0, (i.1.0, stage_flowed x l.stage (λ j has. some_is h j (sym own_handle ∙ has)) (found_passes (is_at h) s.links l found) i.1.1))
 
       flowed_own : (n : ℕ) → l.link ≡ n → link_of (map (flowed_link l.link count credit) s.sending) n ≡ option_map with_flow (link_of s.sending n)
       flowed_own n same = mapped_here n (flowed_link l.link count credit) (λ x. refl) s.sending ∙ by (link_of s.sending n) refl
@@ -786,30 +923,12 @@ module _ (f : ℕ → Option Credit) (peer : ℕ) (count : Option ℕ) (credit :
               (mapped_other n (flowed_link l.link count credit) (λ x. refl)
               (λ x i. ap (λ (b : Bool). record x { state = cond b (after_flow count credit x.state) x.state }) (ne_to x.link l.link (λ same. no_clash (l.link == n) (eq_to l.link n (sym same ∙ i)) e))) s.sending)
               (placed_other n (told_by drain echo l) s.links e)
-              (agree_apart (link_of s.sending n) (find (has_number n) s.links) (λ k is r j q has names. only_handle j q names (other_handle n e k is j (is_at_handle j k.stage has))) (all n))
+              (others_apart f peer _ mark s all h handle l t found n e)
           by true e =
               let same : l.link ≡ n = eq_of l.link n e in
               let is : find (has_number n) s.links ≡ Some l = subst (λ (m : ℕ). find (has_number m) s.links ≡ Some l) same (found_number (is_at h) s.links l t.rising found) in
               agree_as flow_fold s.handles _ _ (Some (told_by drain echo l)) _ (flowed_own n same) (placed_here n (told_by drain echo l) l s.links same is)
               (agree_flowed (link_of s.sending n) (subst (Agree f s.handles (link_of s.sending n)) is (all n)))
-
-  -- none sends at a handle that no link has, or a receiving one
-  none_sends : (h : ℕ) → find (is_at h) s.links ≡ None → (n : ℕ) (k : PathLink) → find (has_number n) s.links ≡ Some k → k.receives ≡ false → (j : ℕ) → is_stage_at j k.stage ≡ true
-      → (h == j) ≡ false
-  none_sends h none n k is sends j at =
-      let no : is_at h k ≡ false = (all_find (λ x. is_at h x ≡ false) (has_number n) s.links k (none_passes (is_at h) s.links none) is).0 in
-      ne_to h j (λ same. no_clash (is_at h k) (subst (λ (m : ℕ). is_stage_at m k.stage ≡ true) (sym same) at) no)
-
-  receiver_alone : (h : ℕ) (l : PathLink) → find (is_at h) s.links ≡ Some l → l.receives ≡ true → (n : ℕ) (k : PathLink) → find (has_number n) s.links ≡ Some k → k.receives ≡ false
-      → (j : ℕ) → is_stage_at j k.stage ≡ true → (h == j) ≡ false
-  receiver_alone h l e role n k is sends j at = by (l.link == n) refl
-    where
-      by : (b : Bool) → (l.link == n) ≡ b → (h == j) ≡ false
-      by false ne = apart (is_at h) n s l k t e is ne h j (is_at_handle h l.stage (found_passes (is_at h) s.links l e)) (is_at_handle j k.stage at)
-      by true e' =
-          let own : find (has_number n) s.links ≡ Some l = subst (λ (m : ℕ). find (has_number m) s.links ≡ Some l) (eq_of l.link n e') (found_number (is_at h) s.links l t.rising e) in
-          let same : l ≡ k = some_link l k (sym own ∙ is) in
-          absurd (no_clash l.receives role (ap (λ (x : PathLink). x.receives) same ∙ sends))
 
   -- the links after the flow, by the link that is named
   abbrev after_named : Bool → Bool → Option PathLink → LinksState
@@ -828,18 +947,18 @@ module _ (f : ℕ → Option Credit) (peer : ℕ) (count : Option ℕ) (credit :
           role false = ap (λ (o : Option PathLink). flowed_on o count credit drain echo s) e
 
   named_agree : (drain echo : Bool) (h : ℕ) → named_by s.handles peer ≡ Some h → (q : Option PathLink) → find (is_at h) s.links ≡ q → AllAgree flow_fold (after_named drain echo q)
-  named_agree drain echo h handle None e = empty_agree h handle (none_sends h e)
+  named_agree drain echo h handle None e = empty_agree f peer _ mark s all h handle (none_sends s h e)
   named_agree drain echo h handle (Some l) e = role l.receives refl
     where
       role : (b : Bool) → l.receives ≡ b → AllAgree flow_fold (cond b s (flowed_on (Some l) count credit drain echo s))
-      role true r = empty_agree h handle (receiver_alone h l e r)
+      role true r = empty_agree f peer _ mark s all h handle (receiver_alone s t h l e r)
       role false r = flowed_agree h handle l drain echo e
 
   pub flow_agree : (drain echo : Bool) → AllAgree flow_fold (flowed_if (receiver_in (named peer s)) peer count credit drain echo s)
   flow_agree drain echo = subst (AllAgree flow_fold) (sym (after_is drain echo)) (by (named_by s.handles peer) refl)
     where
       by : (o : Option ℕ) → named_by s.handles peer ≡ o → AllAgree flow_fold (after_named drain echo (at_handle o s.links))
-      by None e = unnamed_agree e
+      by None e = unnamed_agree f peer _ mark s all e
       by (Some h) e = named_agree drain echo h e (find (is_at h) s.links) refl
 
 -- ---- detaches, and a transfer that fails
@@ -889,7 +1008,9 @@ read_named (state.Attached a) peer is = by a.detach_sent is
     by true is = absurd cc
     by false is = is
 
-module _ (f : ℕ → Option Credit) (s : LinksState) (l : PathLink) (p : PathLink → Bool) (t : Tied s) (all : AllAgree f s) (found : find p s.links ≡ Some l) where
+-- where one link changes, and of the others the fold says what it said
+module _ (f : ℕ → Option Credit) (s : LinksState) (l : PathLink) (p : PathLink → Bool) (t : Tied s) (found : find p s.links ≡ Some l)
+    (others : (n : ℕ) → (l.link == n) ≡ false → Agree f s.handles (link_of s.sending n) (find (has_number n) s.links)) where
   abbrev hand : ℕ
   hand = handle_of l.stage
 
@@ -901,7 +1022,7 @@ module _ (f : ℕ → Option Credit) (s : LinksState) (l : PathLink) (p : PathLi
       → Agree f (with_state hand st s.handles) (link_of s.sending n) (find (has_number n) s.links)
   others_stay st n has less ne =
       agree_on f f s.handles (with_state hand st s.handles) (link_of s.sending n) (find (has_number n) s.links)
-      (λ k is j at. record { fold = refl; names = λ peer named. named_stays s.handles hand st peer j (apart p n s l k t found is ne hand j has at) (less peer) named }) (all n)
+      (λ k is j at. record { fold = refl; names = λ peer named. named_stays s.handles hand st peer j (apart p n s l k t found is ne hand j has at) (less peer) named }) (others n ne)
 
   -- credits that are kept no more
   record Leaves (xs : List SendingLink) : Type 0 where
@@ -928,7 +1049,8 @@ module _ (f : ℕ → Option Credit) (s : LinksState) (l : PathLink) (p : PathLi
 
   -- another takes its place
   placed_agree : (x : PathLink) (st : HandleState) → handle_in l.stage ≡ Some hand → ((peer : ℕ) → is_named peer st ≡ true → is_named peer (state_of s.handles hand) ≡ true)
-      → x.link ≡ l.link → HasAsked f x.link x.name x.receives x.stage → IsSpent x → AllAgree f (record s { sending = without l.link s.sending; links = put x s.links; handles = with_state hand st s.handles })
+      → x.link ≡ l.link → HasAsked f x.link x.name x.receives x.stage → IsSpent f x
+      → AllAgree f (record s { sending = without l.link s.sending; links = put x s.links; handles = with_state hand st s.handles })
   placed_agree x st has less number new spent n = by (l.link == n) refl
     where
       by : (b : Bool) → (l.link == n) ≡ b → Agree f (with_state hand st s.handles) (link_of (without l.link s.sending) n) (find (has_number n) (put x s.links))
@@ -939,21 +1061,21 @@ module _ (f : ℕ → Option Credit) (s : LinksState) (l : PathLink) (p : PathLi
           agree_as f (with_state hand st s.handles) None _ (Some x) _ (subst (λ (m : ℕ). link_of (without l.link s.sending) m ≡ None) same (without_here l.link s.sending))
           (placed_here n x l s.links (number ∙ same) (subst (λ (m : ℕ). find (has_number m) s.links ≡ Some l) same own)) (new, spent)
 
+module _ (f : ℕ → Option Credit) (s : LinksState) (l : PathLink) (p : PathLink → Bool) (t : Tied s) (all : AllAgree f s) (found : find p s.links ≡ Some l) where
+  rest : (n : ℕ) → (l.link == n) ≡ false → Agree f s.handles (link_of s.sending n) (find (has_number n) s.links)
+  rest n ne = all n
+
+  -- the link itself
+  itself : Agree f s.handles (link_of s.sending l.link) (Some l)
+  itself = subst (Agree f s.handles (link_of s.sending l.link)) (own f s l p t found rest) (all l.link)
+
   -- in the role in which it was attached
-  role_own : handle_in l.stage ≡ Some hand → role_in (f hand) ≡ Some l.receives
-  role_own has = agree_role f s.handles (link_of s.sending l.link) l hand has (subst (Agree f s.handles (link_of s.sending l.link)) own (all l.link))
+  role_own : handle_in l.stage ≡ Some (handle_of l.stage) → role_in (f (handle_of l.stage)) ≡ Some l.receives
+  role_own has = agree_role f s.handles (link_of s.sending l.link) l (handle_of l.stage) has itself
 
-  -- the container's detach
-  detached_agree : handle_in l.stage ≡ Some hand → AllAgree f (detached_on (Some l) s)
-  detached_agree has = by (is_given l)
-    where
-      by : (b : Bool) → AllAgree f (record { sending = without l.link s.sending; links = cond b (dropped l.link s.links) (put (left_by l) s.links); handles = with_state hand (with_read (state_of s.handles hand)) s.handles })
-      by true = dropped_agree (without l.link s.sending) (with_read (state_of s.handles hand)) without_it has (λ peer is. read_named (state_of s.handles hand) peer is)
-      by false = placed_agree (left_by l) (with_read (state_of s.handles hand)) has (λ peer is. read_named (state_of s.handles hand) peer is) refl (role_own has) (spent_by_end (left_by l) refl)
-
-  -- the gateway's, of a link that the container detached or of another
+  -- the gateway's detach, of a link that the container detached or of another
   none_of_left : is_left l ≡ true → link_of s.sending l.link ≡ None
-  none_of_left left_is = by (link_of s.sending l.link) (subst (Agree f s.handles (link_of s.sending l.link)) own (all l.link))
+  none_of_left left_is = by (link_of s.sending l.link) itself
     where
       out : (x : SendingLink) (g : Stage) → is_stage_left g ≡ true → AtStage f s.handles x g → ⊥
       out x stage.Wanted e i = absurd cc
@@ -970,26 +1092,111 @@ module _ (f : ℕ → Option Credit) (s : LinksState) (l : PathLink) (p : PathLi
 
   gone_agree : is_left l ≡ true → AllAgree f (gone_on (Some l) s)
   gone_agree left_is =
-      subst (λ (ks : List PathLink). AllAgree f (record { sending = s.sending; links = ks; handles = with_state hand (with_sent (state_of s.handles hand)) s.handles })) (sym (gone_is p s.sending s.links s.handles l t found left_is))
-      (dropped_agree s.sending (with_sent (state_of s.handles hand)) (record { other = λ n ne. refl; none = none_of_left left_is }) (left_handle l.stage left_is) (λ peer is. sent_named (state_of s.handles hand) peer is))
+      subst (λ (ks : List PathLink). AllAgree f (record { sending = s.sending; links = ks; handles = with_state (handle_of l.stage) (with_sent (state_of s.handles (handle_of l.stage))) s.handles }))
+      (sym (gone_is p s.sending s.links s.handles l t found left_is))
+      (dropped_agree f s l p t found rest s.sending (with_sent (state_of s.handles (handle_of l.stage))) (record { other = λ n ne. refl; none = none_of_left left_is }) (left_handle l.stage left_is)
+      (λ peer is. sent_named (state_of s.handles (handle_of l.stage)) peer is))
 
   given_agree : (is_stage_open l.stage || is_stage_failed l.stage) ≡ true → AllAgree f (given_on (Some l) s)
-  given_agree up = placed_agree (given_by l) (with_sent (state_of s.handles hand)) (up_handle l.stage up) (λ peer is. sent_named (state_of s.handles hand) peer is) refl (role_own (up_handle l.stage up)) (spent_by_end (given_by l) refl)
+  given_agree up =
+      placed_agree f s l p t found rest (given_by l) (with_sent (state_of s.handles (handle_of l.stage))) (up_handle l.stage up) (λ peer is. sent_named (state_of s.handles (handle_of l.stage)) peer is) refl
+      (role_own (up_handle l.stage up)) tt
 
   -- a transfer on a receiving link fails
-  failed_agree : (fault : TransferFault) → l.receives ≡ true → handle_in l.stage ≡ Some hand → AllAgree f (record s { links = put (failed_by fault l) s.links })
+  failed_agree : (fault : TransferFault) → l.receives ≡ true → handle_in l.stage ≡ Some (handle_of l.stage) → AllAgree f (record s { links = put (failed_by fault l) s.links })
   failed_agree fault role has n = by (l.link == n) refl
     where
       mine : (o : Option SendingLink) → Agree f s.handles o (Some l) → Agree f s.handles o (Some (failed_by fault l))
-      mine None i = (role_own has, spent_by_role (failed_by fault l) role)
+      mine None i = (role_own has, role)
       mine (Some x) i = absurd (no_clash l.receives role i.1.0)
 
       by : (b : Bool) → (l.link == n) ≡ b → Agree f s.handles (link_of s.sending n) (find (has_number n) (put (failed_by fault l) s.links))
       by false ne = agree_as f s.handles _ _ _ _ refl (placed_other n (failed_by fault l) s.links ne) (all n)
       by true e =
           let same : l.link ≡ n = eq_of l.link n e in
-          let is : find (has_number n) s.links ≡ Some l = subst (λ (m : ℕ). find (has_number m) s.links ≡ Some l) same own in
+          let is : find (has_number n) s.links ≡ Some l = subst (λ (m : ℕ). find (has_number m) s.links ≡ Some l) same (own f s l p t found rest) in
           agree_as f s.handles _ _ (Some (failed_by fault l)) _ refl (placed_here n (failed_by fault l) l s.links same is) (mine (link_of s.sending n) (subst (Agree f s.handles (link_of s.sending n)) is (all n)))
+
+-- the container's detach
+module _ (f : ℕ → Option Credit) (peer : ℕ) (s : LinksState) (t : Tied s) (all : AllAgree f s) where
+  abbrev detach_fold : ℕ → Option Credit
+  detach_fold k = option_map (detached peer) (f k)
+
+  -- of the link that is named
+  module _ (h : ℕ) (handle : named_by s.handles peer ≡ Some h) (l : PathLink) (found : find (is_at h) s.links ≡ Some l) where
+    at_it : is_stage_at h l.stage ≡ true
+    at_it = found_passes (is_at h) s.links l found
+
+    has_it : handle_in l.stage ≡ Some (handle_of l.stage)
+    has_it = has_handle l.stage h (is_at_handle h l.stage at_it)
+
+    around : (n : ℕ) → (l.link == n) ≡ false → Agree detach_fold s.handles (link_of s.sending n) (find (has_number n) s.links)
+    around n ne = others_apart f peer (detached peer) (detach_mark peer) s all h handle l t found n ne
+
+    -- what was kept stays with the link
+    over_now : (x : SendingLink) (j : ℕ) → x.link ≡ l.link → is_named peer (state_of s.handles j) ≡ true → IsKept f s.handles x j → IsOver detach_fold l.link x.state.count x.state.credit j
+    over_now x j number named k = record {
+      credit = record k.credit { ended = true };
+      is = ap (option_map (detached peer)) k.is
+          ∙ ap (λ (b : Bool). Some (cond b (record k.credit { ended = true }) k.credit))
+          (peer_same peer k.peer k.credit k.answers ∙ eq_to k.peer peer (one_peer (state_of s.handles j) k.peer peer k.names.here named));
+      peer = k.peer;
+      answers = k.answers;
+      number = k.number ∙ number;
+      states = k.count;
+      low = k.low;
+      exact = k.exact;
+      over = refl;
+    }
+
+    over_at : (x : SendingLink) (g : Stage) → x.link ≡ l.link → is_stage_at h g ≡ true → is_stage_given g ≡ false → AtStage f s.handles x g → IsOver detach_fold l.link x.state.count x.state.credit (handle_of g)
+    over_at x stage.Wanted number at off i = absurd cc
+    over_at x (stage.Asked j) number at off i = absurd cc
+    over_at x (stage.Open j) number at off i = over_now x j number (subst (λ (m : ℕ). is_named peer (state_of s.handles m) ≡ true) (sym (eq_of j h at)) (named_here s peer h handle)) i
+    over_at x (stage.Refused j) number at off i = over_now x j number (subst (λ (m : ℕ). is_named peer (state_of s.handles m) ≡ true) (sym (eq_of j h at)) (named_here s peer h handle)) i
+    over_at x (stage.Left j) number at off i = absurd cc
+    over_at x (stage.Given j) number at off i = absurd cc
+    over_at x (stage.Failed j fault) number at off i = absurd i
+
+    receives_at : (g : Stage) → is_stage_at h g ≡ true → is_stage_given g ≡ false → AtEnd f l.link l.count l.credit l.receives g → l.receives ≡ true
+    receives_at stage.Wanted at off e = e
+    receives_at (stage.Asked j) at off e = e
+    receives_at (stage.Open j) at off e = e
+    receives_at (stage.Refused j) at off e = e
+    receives_at (stage.Left j) at off e = absurd cc
+    receives_at (stage.Given j) at off e = absurd cc
+    receives_at (stage.Failed j fault) at off e = e
+
+    over_of : (o : Option SendingLink) → link_of s.sending l.link ≡ o → is_given l ≡ false → Agree f s.handles o (Some l) → l.receives ≡ false
+        → IsOver detach_fold l.link (count_in o) (credit_in o) (handle_of l.stage)
+    over_of None e off i sends = absurd (no_clash l.receives (receives_at l.stage at_it off i.1) sends)
+    over_of (Some x) e off i sends = over_at x l.stage (found_sender l.link s.sending x e) at_it off i.1.1
+
+    detached_agree : AllAgree detach_fold (detached_on (Some l) s)
+    detached_agree = by (is_given l) refl
+      where
+        by : (b : Bool) → is_given l ≡ b
+            → AllAgree detach_fold (record { sending = without l.link s.sending; links = cond b (dropped l.link s.links) (put (left_by s.sending l) s.links);
+            handles = with_state (handle_of l.stage) (with_read (state_of s.handles (handle_of l.stage))) s.handles })
+        by true given =
+            dropped_agree detach_fold s l (is_at h) t found around (without l.link s.sending) (with_read (state_of s.handles (handle_of l.stage)))
+            (without_it detach_fold s l (is_at h) t found around) has_it (λ q is. read_named (state_of s.handles (handle_of l.stage)) q is)
+        by false off =
+            placed_agree detach_fold s l (is_at h) t found around (left_by s.sending l) (with_read (state_of s.handles (handle_of l.stage))) has_it
+            (λ q is. read_named (state_of s.handles (handle_of l.stage)) q is) refl
+            (mark_role f peer (detached peer) (detach_mark peer) s all (handle_of l.stage) l.receives (role_own f s l (is_at h) t all found has_it))
+            (over_of (link_of s.sending l.link) refl off (itself f s l (is_at h) t all found))
+
+  pub link_detached_agree : AllAgree detach_fold (link_detached peer s)
+  link_detached_agree = by (named_by s.handles peer) refl
+    where
+      at : (h : ℕ) → named_by s.handles peer ≡ Some h → (o : Option PathLink) → find (is_at h) s.links ≡ o → AllAgree detach_fold (detached_on o s)
+      at h handle None e = empty_agree f peer (detached peer) (detach_mark peer) s all h handle (none_sends s h e)
+      at h handle (Some l) e = detached_agree h handle l e
+
+      by : (o : Option ℕ) → named_by s.handles peer ≡ o → AllAgree detach_fold (detached_on (at_handle o s.links) s)
+      by None e = unnamed_agree f peer (detached peer) (detach_mark peer) s all e
+      by (Some h) e = at h e (find (is_at h) s.links) refl
 
 -- ---- by what they name
 
@@ -1000,19 +1207,6 @@ parted_agree f s (Some l) t a there = by (is_left l) refl
     by : (b : Bool) → is_left l ≡ b → AllAgree f (cond b (gone_on (Some l) s) (given_on (Some l) s))
     by true e = gone_agree f s l (has_number l.link) t a there.0 e
     by false e = given_agree f s l (has_number l.link) t a there.0 (there.1 e)
-
-detached_at : (f : ℕ → Option Credit) (s : LinksState) (h : ℕ) (o : Option PathLink) → Tied s → AllAgree f s → find (is_at h) s.links ≡ o → AllAgree f (detached_on o s)
-detached_at f s h None t a e = a
-detached_at f s h (Some l) t a e =
-    let has : handle_in l.stage ≡ Some h = is_at_handle h l.stage (found_passes (is_at h) s.links l e) in
-    detached_agree f s l (is_at h) t a e (has_handle l.stage h has)
-
-pub link_detached_agree : (f : ℕ → Option Credit) (peer : ℕ) (s : LinksState) → Tied s → AllAgree f s → AllAgree f (link_detached peer s)
-link_detached_agree f peer s t a = by (named_by s.handles peer)
-  where
-    by : (o : Option ℕ) → AllAgree f (detached_on (at_handle o s.links) s)
-    by None = a
-    by (Some h) = detached_at f s h (find (is_at h) s.links) t a refl
 
 failed_at : (f : ℕ → Option Credit) (fault : TransferFault) (s : LinksState) (h : ℕ) (o : Option PathLink) → Tied s → AllAgree f s → find (is_at h) s.links ≡ o → AllAgree f (failed_on o fault s)
 failed_at f fault s h None t a e = a

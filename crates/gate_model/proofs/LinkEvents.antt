@@ -26,7 +26,7 @@ use Rattle.session_path.proofs.SameLinks.{attach_same, disposed_same, dropped_sa
 use Rattle.session_path.proofs.SameLinks.{flowed_same, got_links, got_same, transfer_same}
 use Rattle.session_path.proofs.Tied.{Tied, tied_after}
 use Rattle.session_path.proofs.Ties.{found_passes}
-use Rattle.gate_model.specs.LinkCredits.{Answered, Asked, Begun, Credit, Flowed, LinkStep, Told, after_step, credit_by}
+use Rattle.gate_model.specs.LinkCredits.{Answered, Asked, Begun, Credit, Detached, Flowed, LinkStep, Told, after_step, credit_by}
 use Rattle.gate_model.proofs.Granting.{owes_none}
 use Rattle.gate_model.proofs.LinkCredits.{AllAgree, AreDistinct, agree_on, attached_agree, flow_agree, link_detached_agree, link_failed_agree}
 use Rattle.gate_model.proofs.LinkCredits.{linked_to_agree, parted_agree, received_agree, without_agree}
@@ -64,7 +64,7 @@ module _ (f : ℕ → Option Credit) where
   mute_agree (event.Declared queue no_wait) s e t all = received_agree f s.links t all
   mute_agree (event.GetAsked queue no_ack) s e t all =
       subst (AllAgree f) (sym (got_same (get_link (queue_or s.queue queue) s) (queue_or s.queue queue) no_ack s)) (got_agree (get_link (queue_or s.queue queue) s) s.links t all)
-  mute_agree (event.DetachCame peer not_found) s e t all = link_detached_agree f peer s.links t all
+  mute_agree (event.DetachCame peer not_found) s e t all = absurd cc
   mute_agree (event.TransferCame peer part payload image again) s e t all = subst (AllAgree f) (sym (transfer_same (taking peer s) part payload image again s)) all
   mute_agree (event.LinkFailed peer fault) s e t all = link_failed_agree f peer fault s.links t all
   mute_agree event.DisposeSent s e t all = subst (AllAgree f) (sym (disposed_same (next_settle_of s.deliveries.list) s)) all
@@ -102,6 +102,10 @@ module _ (f : ℕ → Option Credit) where
   flow_came_agree peer count credit drain echo s t all =
       subst (AllAgree (folded (Flowed peer count credit ∷ []) f)) (sym (flowed_same (receiver_in (named peer s.links)) peer count credit drain echo s))
       (flow_agree f peer count credit s.links t all drain echo)
+
+  pub detach_came_agree : (peer : ℕ) (not_found : Bool) (s : PathState) → Tied s.links → AllAgree f s.links
+      → AllAgree (folded (Detached peer ∷ []) f) (after_event (event.DetachCame peer not_found) s).links
+  detach_came_agree peer not_found s t all = link_detached_agree f peer s.links t all
 
   -- ---- what the gateway sends
 
@@ -176,6 +180,7 @@ credit_rules = record {
   mute = λ xs x s m t all. mute_agree (λ k. credit_by k xs) x s m t all;
   came = λ xs a s t distinct fine all. came_agree (λ k. credit_by k xs) a s t distinct fine all;
   flow_came = λ xs peer count credit drain echo s t all. flow_came_agree (λ k. credit_by k xs) peer count credit drain echo s t all;
+  detach_came = λ xs peer not_found s t all. detach_came_agree (λ k. credit_by k xs) peer not_found s t all;
   attach_sent = λ xs name a s t new due all. attach_sent_agree (λ k. credit_by k xs) name a s t due all;
   flow_sent = λ xs d s t fresh receives due all. flow_sent_agree (λ k. credit_by k xs) d s t fresh receives due all;
   first_sent = λ xs frame count s t e can all. first_sent_agree (λ k. credit_by k xs) frame count s t e can all;

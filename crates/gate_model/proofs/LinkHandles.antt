@@ -218,9 +218,9 @@ module _ (f : ℕ → Option ℕ) where
       at h None e = n
       at h (Some l) e = written (handle_of l.stage) _ _ s (read_mine (state_of s.handles (handle_of l.stage))) (either (is_given l) refl)
         where
-          either : (b : Bool) → is_given l ≡ b → Names f (cond b (dropped l.link s.links) (put (left_by l) s.links)) s.handles
+          either : (b : Bool) → is_given l ≡ b → Names f (cond b (dropped l.link s.links) (put (left_by s.sending l) s.links)) s.handles
           either true g = kept _ s n
-          either false g = placed (is_at h) (left_by l) l s e refl (λ j i. at_held h l.stage (found_passes (is_at h) s.links l e) g ∙ i) n
+          either false g = placed (is_at h) (left_by s.sending l) l s e refl (λ j i. at_held h l.stage (found_passes (is_at h) s.links l e) g ∙ i) n
 
       by : (o : Option ℕ) → NamesIn f (detached_on (at_handle o s.links) s)
       by None = n

@@ -33,7 +33,7 @@ use Rattle.session_path.proofs.Tied.{Tied}
 use Rattle.session_path.proofs.Ties.{and_left, and_right, dropped, eq_of, eq_to, found_passes, is_asked_for, ne_to, state_other, state_same}
 use Rattle.session_path.proofs.Wanted.{all_insert}
 use Rattle.gate_model.specs.Hears.{asked_as, heard_on}
-use Rattle.gate_model.specs.LinkCredits.{Answered, Asked, Begun, Flowed, LinkStep, Told}
+use Rattle.gate_model.specs.LinkCredits.{Answered, Asked, Begun, Detached, Flowed, LinkStep, Told}
 use Rattle.gate_model.proofs.LinkRules.{IsNewName, Rules, count_of, is_mute}
 use Rattle.gate_model.proofs.LinkCredits.{free_unnamed, has_handle, is_at_handle, none_named, read_named, sent_named, some_is, written}
 
@@ -158,12 +158,12 @@ module _ (xs : List LinkStep) where
       at : (h : ℕ) (o : Option PathLink) → find (is_at h) s.links ≡ o → AllHear xs (detached_on o s)
       at h None e = a
       at h (Some l) e =
-          all_in s.handles (with_state (handle_of l.stage) (with_read (state_of s.handles (handle_of l.stage))) s.handles) (cond (is_given l) (dropped l.link s.links) (put (left_by l) s.links))
+          all_in s.handles (with_state (handle_of l.stage) (with_read (state_of s.handles (handle_of l.stage))) s.handles) (cond (is_given l) (dropped l.link s.links) (put (left_by s.sending l) s.links))
           (named_before s.handles (handle_of l.stage) (with_read (state_of s.handles (handle_of l.stage))) (λ p is. read_named (state_of s.handles (handle_of l.stage)) p is)) (either (is_given l))
         where
-          either : (b : Bool) → AllByRecursion (IsHeard xs s.handles) (cond b (dropped l.link s.links) (put (left_by l) s.links))
+          either : (b : Bool) → AllByRecursion (IsHeard xs s.handles) (cond b (dropped l.link s.links) (put (left_by s.sending l) s.links))
           either true = all_filter _ (IsHeard xs s.handles) s.links a
-          either false = put_heard (left_by l) s.handles s.links (at_stage h s.handles l.link l.name l.stage (found_passes (is_at h) s.links l e) (found (is_at h) s l a e)) a
+          either false = put_heard (left_by s.sending l) s.handles s.links (at_stage h s.handles l.link l.name l.stage (found_passes (is_at h) s.links l e) (found (is_at h) s l a e)) a
 
       by : (o : Option ℕ) → AllHear xs (detached_on (at_handle o s.links) s)
       by None = a
@@ -424,6 +424,7 @@ hear_rules = record {
   mute = λ xs x s m t all. hear_on xs x s (mute_is x m) t all;
   came = λ xs a s t distinct fine all. attach_came xs a s t fine all;
   flow_came = λ xs peer count credit drain echo s t all. other_step xs (Flowed peer count credit) (event.FlowCame peer count credit drain echo) s refl (λ name. refl) (λ p. refl) t all;
+  detach_came = λ xs peer not_found s t all. other_step xs (Detached peer) (event.DetachCame peer not_found) s refl (λ name. refl) (λ p. refl) t all;
   attach_sent = λ xs name a s t new due all. attach_went xs name a s new due all;
   flow_sent = λ xs d s t fresh receives due all. other_step xs (Told d.link d.handle (count_of d)) event.LinkFlowSent s refl (λ name. refl) (λ p. refl) t all;
   first_sent = λ xs frame count s t e can all.

@@ -115,9 +115,9 @@ module _ (n : ℕ) where
       at h None e f = f
       at h (Some l) e f = either (is_given l) f
         where
-          either : (b : Bool) → sends n (cond b (dropped l.link s.links) (put (left_by l) s.links)) ≡ true → sends n s.links ≡ true
+          either : (b : Bool) → sends n (cond b (dropped l.link s.links) (put (left_by s.sending l) s.links)) ≡ true → sends n s.links ≡ true
           either true g = left_sends n (λ k. not (has_number l.link k)) s.links t.rising g
-          either false g = put_sends n (is_at h) s.links l (left_by l) t.rising e refl refl g
+          either false g = put_sends n (is_at h) s.links l (left_by s.sending l) t.rising e refl refl g
 
       by : (o : Option ℕ) → Before s (detached_on (at_handle o s.links) s)
       by None f = f

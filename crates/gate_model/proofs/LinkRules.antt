@@ -17,13 +17,14 @@ use Rattle.session_path.specs.declared.path.PathLink.{PathLink}
 use Rattle.session_path.proofs.Fresh.{AreFresh}
 use Rattle.session_path.proofs.Tied.{Tied, tied_after}
 use Rattle.gate_model.specs.Hears.{asked_as}
-use Rattle.gate_model.specs.LinkCredits.{Answered, Asked, Begun, Flowed, LinkStep, Told, credit_by}
+use Rattle.gate_model.specs.LinkCredits.{Answered, Asked, Begun, Detached, Flowed, LinkStep, Told, credit_by}
 use Rattle.gate_model.proofs.LinkCredits.{AreDistinct}
 
 -- an event that no fold over them sees
 abbrev pub is_mute : PathEvent → Bool
 is_mute (event.AttachCame attach) = false
 is_mute (event.FlowCame peer count credit drain echo) = false
+is_mute (event.DetachCame peer not_found) = false
 is_mute (event.AttachSent name) = false
 is_mute event.LinkFlowSent = false
 is_mute (event.TransferSent frame count) = false
@@ -44,6 +45,8 @@ pub record Rules (P : List LinkStep → LinksState → Type 0) : Type 0 where
       → P (Answered a.name a.peer ∷ xs) (after_event (event.AttachCame a) s).links
   pub flow_came : (xs : List LinkStep) (peer : ℕ) (count : Option ℕ) (credit : ℕ) (drain echo : Bool) (s : PathState) → Tied s.links → P xs s.links
       → P (Flowed peer count credit ∷ xs) (after_event (event.FlowCame peer count credit drain echo) s).links
+  pub detach_came : (xs : List LinkStep) (peer : ℕ) (not_found : Bool) (s : PathState) → Tied s.links → P xs s.links
+      → P (Detached peer ∷ xs) (after_event (event.DetachCame peer not_found) s).links
   pub attach_sent : (xs : List LinkStep) (name : ℕ) (a : AttachDue) (s : PathState) → Tied s.links → IsNewName name xs → next_attach s ≡ Some a → P xs s.links
       → P (Asked a.link a.handle name a.receives ∷ xs) (after_event (event.AttachSent name) s).links
   pub flow_sent : (xs : List LinkStep) (d : FlowDue) (s : PathState) → Tied s.links → AreFresh s.links

@@ -17,15 +17,14 @@ use Rattle.publish_path.specs.declared.send_links.SendingLink.{SendingLink}
 use Rattle.session_path.specs.declared.path.PathLink.{PathLink}
 use Rattle.session_path.specs.declared.path.Stage.{Stage}
 use Rattle.session_path.specs.declared.path.Stage.TheVariants as stage
-use Rattle.session_path.specs.Due.{count_in}
-use Rattle.session_path.specs.Links.{LinksState, asked_as, asked_on, drained_if, handle_at, handle_in, handle_in_link, handle_of, has_number}
+use Rattle.session_path.specs.Due.{count_of, credit_of}
+use Rattle.session_path.specs.Links.{LinksState, asked_as, count_in, credit_in, is_left, asked_on, drained_if, handle_at, handle_in, handle_in_link, handle_of, has_number}
 use Rattle.session_path.specs.Links.{is_given_back, is_half, is_parting, is_stage_failed, is_stage_given, is_stage_left, is_stage_wanted, is_wanted, is_whole, put, stands, told_on, told_once}
-use Rattle.session_path.specs.Path.{credit_in}
 use Rattle.session_path.proofs.Tied.{Tied}
 use Rattle.session_path.proofs.Ties.{and_left, and_right, eq_of, eq_to, found_number, found_passes, ne_to, no_clash}
 use Rattle.gate_model.specs.LinkCredits.{Credit, begun, left, new_credit, told}
-use Rattle.gate_model.proofs.LinkCredits.{Agree, AllAgree, AtStage, HasAsked, IsKept, agree_as, agree_on, apart, found_sender}
-use Rattle.gate_model.proofs.LinkCredits.{role_in, role_mapped, spent_by_role, still_receives}
+use Rattle.gate_model.proofs.LinkCredits.{Agree, AllAgree, AtEnd, AtStage, HasAsked, IsKept, IsOver, IsSpent, agree_as, agree_on, apart, found_sender}
+use Rattle.gate_model.proofs.LinkCredits.{role_in, role_mapped, spent_by_role, spent_on, still_receives}
 use Rattle.gate_model.proofs.LinkCredits.{mapped_here, mapped_other, named_stays, placed_here, placed_other, some_is}
 
 -- ---- attaches
@@ -87,7 +86,10 @@ module _ (f : ℕ → Option Credit) (s : LinksState) (l : PathLink) (h name : �
   wanted_stays = ap (λ (q : Stage). (is_stage_left q || is_stage_failed q) || is_stage_given q) (wanted_stage l.stage (found_passes is_wanted s.links l found))
 
   agree_asked : (o : Option SendingLink) → Agree f s.handles o (Some l) → Agree asked_fold asked_table o (Some (asked_as h name l))
-  agree_asked None i = (ap (λ (b : Bool). cond b (Some (new_credit l.link name l.receives)) (f h)) (eq_to h h refl), spent_by_role (asked_as h name l) (still_receives l i.1 wanted_stays))
+  agree_asked None i = (
+    ap (λ (b : Bool). cond b (Some (new_credit l.link name l.receives)) (f h)) (eq_to h h refl),
+    still_receives f l.link l.count l.credit l.receives l.stage i.1 wanted_stays,
+  )
   agree_asked (Some x) i =
       (ap (λ (b : Bool). cond b (Some (new_credit l.link name l.receives)) (f h)) (eq_to h h refl), (i.1.0, subst (AtStage f s.handles x) (wanted_stage l.stage (found_passes is_wanted s.links l found)) i.1.1))
 
@@ -162,6 +164,7 @@ kept_told f t link handle count j x ne k = record {
   count = k.count;
   low = k.low;
   exact = k.exact;
+  stays = k.stays;
 }
   where
     stays : told link count k.credit ≡ k.credit
@@ -185,10 +188,25 @@ module _ (f : ℕ → Option Credit) (s : LinksState) (link handle count : ℕ) 
   abbrev after_flow : ℕ → Option Credit
   after_flow = told_fold f link handle count
 
-  told_apart : (n : ℕ) (o : Option SendingLink) (p : Option PathLink) → link_of s.sending n ≡ o → (n == link) ≡ false → Agree f s.handles o p → Agree after_flow s.handles o p
-  told_apart n o None e ne i = i
-  told_apart n None (Some l) e ne i = (asked_told f link handle count l.link l.name l.receives l.stage i.0, i.1)
-  told_apart n (Some x) (Some l) e ne i =
+  -- of one that the container detached, with another number
+  over_told : (l : PathLink) → (l.link == link) ≡ false → IsSpent f l → IsSpent after_flow l
+  over_told l ne e = spent_on f after_flow l.link l.count l.credit l.receives l.stage (λ h is sends o. by h o (handle == h)) e
+    where
+      stays : (h : ℕ) (o : IsOver f l.link l.count l.credit h) → told link count o.credit ≡ o.credit
+      stays h o = ap (λ (b : Bool). cond (b && is_some o.credit.peer) (record o.credit { count = count }) o.credit) (ap (λ (m : ℕ). m == link) o.number ∙ ne)
+
+      by : (h : ℕ) (o : IsOver f l.link l.count l.credit h) (b : Bool) → cond b (option_map (told link count) (f h)) (f h) ≡ f h
+      by h o true = ap (option_map (told link count)) o.is ∙ ap Some (stays h o) ∙ sym o.is
+      by h o false = refl
+
+  told_apart : (n : ℕ) (o : Option SendingLink) (p : Option PathLink) → link_of s.sending n ≡ o → find (has_number n) s.links ≡ p → (n == link) ≡ false → Agree f s.handles o p
+      → Agree after_flow s.handles o p
+  told_apart n o None e g ne i = i
+  told_apart n None (Some l) e g ne i = (
+    asked_told f link handle count l.link l.name l.receives l.stage i.0,
+    over_told l (ap (λ (m : ℕ). m == link) (eq_of l.link n (found_passes (has_number n) s.links l g)) ∙ ne) i.1,
+  )
+  told_apart n (Some x) (Some l) e g ne i =
       let other : (x.link == link) ≡ false = ap (λ (m : ℕ). m == link) (found_sender n s.sending x e) ∙ ne in
       (asked_told f link handle count l.link l.name l.receives l.stage i.0, (i.1.0, stage_told f s.handles link handle count x l.stage other i.1.1))
 
@@ -198,12 +216,24 @@ module _ (f : ℕ → Option Credit) (s : LinksState) (link handle count : ℕ) 
     where
       alone : (o : Option SendingLink) (p : Option PathLink) → find (has_number n) s.links ≡ p → n ≡ link → Agree f s.handles o p → Agree after_flow s.handles o p
       alone o None e same i = i
-      alone None (Some l) e same i = (asked_told f link handle count l.link l.name l.receives l.stage i.0, i.1)
+      alone None (Some l) e same i = (
+        asked_told f link handle count l.link l.name l.receives l.stage i.0,
+        spent_by_role after_flow l.link l.count l.credit l.receives l.stage (receives l (ap (λ (m : ℕ). find (has_number m) s.links) (sym same) ∙ e)),
+      )
       alone (Some x) (Some l) e same i = absurd (no_clash l.receives (receives l (ap (λ (m : ℕ). find (has_number m) s.links) (sym same) ∙ e)) i.1.0)
 
       by : (b : Bool) → (n == link) ≡ b → Agree after_flow s.handles (link_of s.sending n) (find (has_number n) s.links)
-      by false ne = told_apart n (link_of s.sending n) (find (has_number n) s.links) refl ne (all n)
+      by false ne = told_apart n (link_of s.sending n) (find (has_number n) s.links) refl refl ne (all n)
       by true e = alone (link_of s.sending n) (find (has_number n) s.links) refl (eq_of n link e) (all n)
+
+-- of a link with this number that both attached
+told_is : (f : ℕ → Option Credit) (link handle count j : ℕ) (c : Credit) (peer : ℕ) → handle ≡ j → f j ≡ Some c → c.link ≡ link → c.peer ≡ Some peer
+    → told_fold f link handle count j ≡ Some (record c { count = count })
+told_is f link handle count j c peer same is number answers =
+    ap (λ (b : Bool). cond b (option_map (told link count) (f j)) (f j)) (eq_to handle j same)
+    ∙ ap (option_map (told link count)) is
+    ∙ ap (λ (b : Bool). Some (cond (b && is_some c.peer) (record c { count = count }) c)) (eq_to c.link link number)
+    ∙ ap (λ (o : Option ℕ). Some (cond (is_some o) (record c { count = count }) c)) answers
 
 -- none is left behind all that was
 none_left : (stated credit count given : ℕ) → credit < 2 ^ 32 → given ≡ left_of stated credit count → 0 ≡ left_of stated credit ((count + given) % 2 ^ 32)
@@ -216,11 +246,21 @@ module _ (f : ℕ → Option Credit) (s : LinksState) (l : PathLink) (p : PathLi
   drains = l.echoes == 0
 
   -- the count that it states
-  abbrev stated_in : Option SendingLink → ℕ
-  stated_in o = cond drains ((count_in o + credit_in o) % 2 ^ 32) (count_in o)
+  abbrev stated_by : ℕ → ℕ → ℕ
+  stated_by count credit = cond drains ((count + credit) % 2 ^ 32) count
 
   abbrev stated : ℕ
-  stated = stated_in (link_of s.sending l.link)
+  stated = stated_by (count_of s.sending l) (credit_of s.sending l)
+
+  -- of one whose credit is kept
+  stated_kept : (x : SendingLink) → is_left l ≡ false → link_of s.sending l.link ≡ Some x → stated_by x.state.count x.state.credit ≡ stated
+  stated_kept x off e =
+      sym (ap (λ (b : Bool). stated_by (cond b l.count (count_in (link_of s.sending l.link))) (cond b l.credit (credit_in (link_of s.sending l.link)))) off
+      ∙ ap (λ (o : Option SendingLink). stated_by (count_in o) (credit_in o)) e)
+
+  -- and of one that the container detached
+  stated_left : is_left l ≡ true → stated_by l.count l.credit ≡ stated
+  stated_left left_is = sym (ap (λ (b : Bool). stated_by (cond b l.count (count_in (link_of s.sending l.link))) (cond b l.credit (credit_in (link_of s.sending l.link)))) left_is)
 
   abbrev fold : ℕ → Option Credit
   fold = told_fold f l.link (handle_of l.stage) stated
@@ -247,21 +287,19 @@ module _ (f : ℕ → Option Credit) (s : LinksState) (l : PathLink) (p : PathLi
   drain_count true x = refl
   drain_count false x = refl
 
-  kept_now : (j : ℕ) (x : SendingLink) → x.link ≡ l.link → handle_of l.stage ≡ j → link_of s.sending l.link ≡ Some x → IsKept f s.handles x j
+  kept_now : (j : ℕ) (x : SendingLink) → x.link ≡ l.link → handle_of l.stage ≡ j → stated_by x.state.count x.state.credit ≡ stated → IsKept f s.handles x j
       → IsKept fold s.handles (drained_if_so drains x) j
   kept_now j x number same is k = record {
     credit = record k.credit { count = stated };
-    is = ap (λ (b : Bool). cond b (option_map (told l.link stated) (f j)) (f j)) (eq_to (handle_of l.stage) j same)
-        ∙ ap (option_map (told l.link stated)) k.is
-        ∙ ap (λ (b : Bool). Some (cond (b && is_some k.credit.peer) (record k.credit { count = stated }) k.credit)) (eq_to k.credit.link l.link (k.number ∙ number))
-        ∙ ap (λ (o : Option ℕ). Some (cond (is_some o) (record k.credit { count = stated }) k.credit)) k.answers;
+    is = told_is f l.link (handle_of l.stage) stated j k.credit k.peer same k.is (k.number ∙ number) k.answers;
     peer = k.peer;
     answers = k.answers;
     names = k.names;
     number = k.number;
-    count = drain_count drains x ∙ sym (ap stated_in is);
-    low = by drains (sym (ap stated_in is));
-    exact = λ uint. whole drains uint (sym (ap stated_in is));
+    count = drain_count drains x ∙ is;
+    low = by drains is;
+    exact = λ uint. whole drains uint is;
+    stays = k.stays;
   }
     where
       by : (b : Bool) → cond b ((x.state.count + x.state.credit) % 2 ^ 32) x.state.count ≡ stated
@@ -277,26 +315,68 @@ module _ (f : ℕ → Option Credit) (s : LinksState) (l : PathLink) (p : PathLi
           (none_left k.credit.stated k.credit.credit k.credit.count x.state.credit uint (k.exact uint)))
       whole false uint e = subst (λ (m : ℕ). x.state.credit ≡ left (record k.credit { count = m })) (sym k.count ∙ e) (k.exact uint)
 
-  stage_now : (x : SendingLink) (g : Stage) → x.link ≡ l.link → ((j : ℕ) → handle_in g ≡ Some j → handle_of l.stage ≡ j) → link_of s.sending l.link ≡ Some x → is_stage_wanted g ≡ false
-      → AtStage f s.handles x g → AtStage fold s.handles (drained_if_so drains x) g
+  stage_now : (x : SendingLink) (g : Stage) → x.link ≡ l.link → ((j : ℕ) → handle_in g ≡ Some j → handle_of l.stage ≡ j)
+      → (is_stage_left g ≡ false → stated_by x.state.count x.state.credit ≡ stated) → is_stage_wanted g ≡ false → AtStage f s.handles x g → AtStage fold s.handles (drained_if_so drains x) g
   stage_now x stage.Wanted number same is off i = absurd cc
   stage_now x (stage.Asked j) number same is off i = (i.0, ap (λ (y : Sending). cond drains (after_drain y) y) i.1 ∙ new drains)
     where
       new : (b : Bool) → cond b (after_drain new_link) new_link ≡ new_link
       new true = refl
       new false = refl
-  stage_now x (stage.Open j) number same is off i = kept_now j x number (same j refl) is i
-  stage_now x (stage.Refused j) number same is off i = kept_now j x number (same j refl) is i
+  stage_now x (stage.Open j) number same is off i = kept_now j x number (same j refl) (is refl) i
+  stage_now x (stage.Refused j) number same is off i = kept_now j x number (same j refl) (is refl) i
   stage_now x (stage.Left j) number same is off i = i
   stage_now x (stage.Given j) number same is off i = i
   stage_now x (stage.Failed j fault) number same is off i = i
 
+  over_now : (j : ℕ) → handle_of l.stage ≡ j → stated_by l.count l.credit ≡ stated → IsOver f l.link l.count l.credit j
+      → IsOver fold l.link (cond drains (advanced l.count l.credit) l.count) (cond drains 0 l.credit) j
+  over_now j same is o = record {
+    credit = record o.credit { count = stated };
+    is = told_is f l.link (handle_of l.stage) stated j o.credit o.peer same o.is o.number o.answers;
+    peer = o.peer;
+    answers = o.answers;
+    number = o.number;
+    states = by drains is;
+    low = low drains is;
+    exact = λ uint. whole drains uint is;
+    over = o.over;
+  }
+    where
+      by : (b : Bool) → cond b ((l.count + l.credit) % 2 ^ 32) l.count ≡ stated → cond b (advanced l.count l.credit) l.count ≡ stated
+      by true e = e
+      by false e = e
+
+      low : (b : Bool) → cond b ((l.count + l.credit) % 2 ^ 32) l.count ≡ stated → cond b 0 l.credit ≤ left (record o.credit { count = stated })
+      low true e = omega arith
+      low false e = subst (λ (m : ℕ). l.credit ≤ left (record o.credit { count = m })) (sym o.states ∙ e) o.low
+
+      whole : (b : Bool) → o.credit.credit < 2 ^ 32 → cond b ((l.count + l.credit) % 2 ^ 32) l.count ≡ stated → cond b 0 l.credit ≡ left (record o.credit { count = stated })
+      whole true uint e =
+          subst (λ (m : ℕ). 0 ≡ left (record o.credit { count = m })) e
+          (subst (λ (m : ℕ). 0 ≡ left (record o.credit { count = (m + l.credit) % 2 ^ 32 })) (sym o.states)
+          (none_left o.credit.stated o.credit.credit o.credit.count l.credit uint (o.exact uint)))
+      whole false uint e = subst (λ (m : ℕ). l.credit ≡ left (record o.credit { count = m })) (sym o.states ∙ e) (o.exact uint)
+
+  spent_now : (g : Stage) → ((j : ℕ) → handle_in g ≡ Some j → handle_of l.stage ≡ j) → (is_stage_left g ≡ true → stated_by l.count l.credit ≡ stated)
+      → AtEnd f l.link l.count l.credit l.receives g → AtEnd fold l.link (cond drains (advanced l.count l.credit) l.count) (cond drains 0 l.credit) l.receives g
+  spent_now stage.Wanted same is e = e
+  spent_now (stage.Asked j) same is e = e
+  spent_now (stage.Open j) same is e = e
+  spent_now (stage.Refused j) same is e = e
+  spent_now (stage.Left j) same is e = λ sends. over_now j (same j refl) (is refl) (e sends)
+  spent_now (stage.Given j) same is e = tt
+  spent_now (stage.Failed j fault) same is e = e
+
   agree_now : (o : Option SendingLink) → link_of s.sending l.link ≡ o → Agree f s.handles o (Some l)
       → Agree fold s.handles (option_map (drained_if_so drains) o) (Some (told_once l))
-  agree_now None e i = (asked_told f l.link (handle_of l.stage) stated l.link l.name l.receives l.stage i.0, i.1)
+  agree_now None e i = (
+    asked_told f l.link (handle_of l.stage) stated l.link l.name l.receives l.stage i.0,
+    spent_now l.stage (λ j is. some_is (handle_of l.stage) j (sym has ∙ is)) stated_left i.1,
+  )
   agree_now (Some x) e i = (
     asked_told f l.link (handle_of l.stage) stated l.link l.name l.receives l.stage i.0,
-    (i.1.0, stage_now x l.stage (found_sender l.link s.sending x e) (λ j is. some_is (handle_of l.stage) j (sym has ∙ is)) e there i.1.1),
+    (i.1.0, stage_now x l.stage (found_sender l.link s.sending x e) (λ j is. some_is (handle_of l.stage) j (sym has ∙ is)) (λ off. stated_kept x off e) there i.1.1),
   )
 
   sending_other : (b : Bool) (n : ℕ) → (l.link == n) ≡ false → link_of (drained_if b l.link s.sending) n ≡ link_of s.sending n
@@ -430,6 +510,7 @@ module _ (f : ℕ → Option Credit) (s : LinksState) (link : ℕ) (t : Tied s) 
         count = ap (λ (m : ℕ). advanced m 1) k.count;
         low = let low : g.x.state.credit ≤ left k.credit = k.low in omega (arith, low, less);
         exact = λ uint. one_less k.credit.stated k.credit.credit k.credit.count g.x.state.credit uint g.some (k.exact uint);
+        stays = k.stays;
       }
 
   role_begun : (g : Goes) → role_in (begun_fold handle) ≡ Some g.l.receives

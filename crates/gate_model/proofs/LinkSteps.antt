@@ -45,22 +45,22 @@ use Rattle.gate_model.specs.declared.outgoing.UpUnit.TheVariants as up
 use Rattle.gate_model.specs.Due.{frame_max_in}
 use Rattle.gate_model.specs.Folds.{connection, container, paths_in, peers, ran_out_in, scope_in}
 use Rattle.gate_model.specs.Hears.{asked_as}
-use Rattle.gate_model.specs.LinkCredits.{Answered, Asked, Begun, Credit, CreditIsKept, Flowed, HasCredit, LinkStep, MayBegin, Told}
-use Rattle.gate_model.specs.LinkCredits.{after_step, answer_step, begun, credit_by, given_step, heard_step, link_step, link_steps, meaning_step, new_credit, told, up_step}
+use Rattle.gate_model.specs.LinkCredits.{Answered, Asked, Begun, Credit, CreditIsKept, Detached, Flowed, HasCredit, LinkStep, MayBegin, Told}
+use Rattle.gate_model.specs.LinkCredits.{after_step, answer_step, begun, credit_by, given_step, heard_step, is_peer, link_step, link_steps, meaning_step, new_credit, told, up_step}
 use Rattle.gate_model.specs.Lives.{life_at}
-use Rattle.gate_model.specs.Paths.{attach_fault_by, attach_out, credit_of, fault_by, flow_out, heard_as, is_attached, name_in, or_no_path, path_at, slot_at, text_of, transfer_error, transfer_of}
+use Rattle.gate_model.specs.Paths.{attach_fault_by, attach_out, credit_of, fault_by, fault_in, flow_out, heard_as, is_attached, is_not_found, name_in, or_no_path, path_at, slot_at, text_of, transfer_error, transfer_of}
 use Rattle.gate_model.specs.Picks.{ArePicks}
 use Rattle.gate_model.specs.Publishing.{attach_events, closed_if, closing, ending, fine_events, given_event, heard_events, meaning_events, opens_channel, path_events}
 use Rattle.gate_model.specs.Publishing.{path_life, session_events, step_events, up_events}
 use Rattle.gate_model.specs.Repeats.{attaches_in}
 use Rattle.gate_model.specs.Session.{is_of_session, is_true}
 use Rattle.gate_model.specs.State.{Gave, Heard, State, Step, attach_scope, before, closing_code, is_later, transfer_scope, unattached}
-use Rattle.gate_model.specs.Upstream.{meaning_by}
+use Rattle.gate_model.specs.Upstream.{condition_in, meaning_by}
 use Rattle.gate_model.proofs.Attaching.{named as named_by_steps}
 use Rattle.gate_model.proofs.Basics.{and_right}
 use Rattle.gate_model.proofs.Fates.{IsLived, lived, path_of}
 use Rattle.gate_model.proofs.Firsts.{OfSession, SessionUnits, goes_up_as}
-use Rattle.gate_model.proofs.Givings.{closing_all, ends_all, gives_up, hears, is_answer, is_given, other_all, rest_all}
+use Rattle.gate_model.proofs.Givings.{closing_all, ends_all, gives_up, hears, is_answer, is_given, lost_all, other_all, outcome_all, transfer_all}
 use Rattle.gate_model.proofs.Granting.{DeliveriesAre}
 use Rattle.gate_model.proofs.Heard.{ClosedAre}
 use Rattle.gate_model.proofs.LinkCredits.{AllAgree, AreDistinct}
@@ -101,6 +101,12 @@ name_stays k (Flowed peer count credit) None e = refl
 name_stays k (Flowed peer count credit) (Some c) e = by _
   where
     by : (b : Bool) → name_of (Some (if b then record c { stated = or_initial count; credit = credit } else c)) ≡ Some c.name
+    by true = refl
+    by false = refl
+name_stays k (Detached peer) None e = refl
+name_stays k (Detached peer) (Some c) e = by (is_peer peer c.peer)
+  where
+    by : (b : Bool) → name_of (Some (if b then record c { ended = true } else c)) ≡ Some c.name
     by true = refl
     by false = refl
 name_stays k (Begun handle) o e = by (handle == k) o
@@ -208,6 +214,7 @@ frame_can window s d e first = room (window == 0) e
 mute : (x : PathEvent) → is_given x ≡ false → is_answer x ≡ false → is_mute x ≡ true
 mute (event.AttachCame attach) e f = absurd cc
 mute (event.FlowCame peer count credit drain echo) e f = absurd cc
+mute (event.DetachCame peer not_found) e f = absurd cc
 mute (event.AttachSent name) e f = absurd cc
 mute event.LinkFlowSent e f = absurd cc
 mute (event.TransferSent frame count) e f = absurd cc
@@ -259,25 +266,34 @@ module _ (P : List LinkStep → LinksState → Type 0) (r : Rules P) (n life : �
       attach_agrees None e fine = all
       attach_agrees (Some name) e fine = r.came (link_steps n h) (heard_as q.1 name) s (tied_after life es) names fine all
 
-      heard_by : (a b c : Bool) → (q.0 == 17) ≡ a → (q.0 == 18) ≡ b → ((q.0 == 19) && not (is_of_session q.1)) ≡ c → (b ≡ true → attach_fault_by q.1 s ≡ None)
-          → (rest : List PathEvent) → AllByRecursion IsMute rest
+      heard_by : (a b c d : Bool) → (q.0 == 17) ≡ a → (q.0 == 18) ≡ b → ((q.0 == 19) && not (is_of_session q.1)) ≡ c → (q.0 == 22) ≡ d → (b ≡ true → attach_fault_by q.1 s ≡ None)
+          → (t o : Bool) → (q.0 == 20) ≡ t → (q.0 == 21) ≡ o
+          → (ts os ls : List PathEvent) → AllByRecursion IsMute ts → AllByRecursion IsMute os → AllByRecursion IsMute ls
           → Agrees ((if b then answer_step (name_in (text_of (field q.1 0))) (number_at q.1 1) else if c then
-          Flowed (number_at q.1 4) (number_in (field q.1 5)) (credit_of (number_in (field q.1 6))) ∷ [] else []) ++ link_steps n h)
+          Flowed (number_at q.1 4) (number_in (field q.1 5)) (credit_of (number_in (field q.1 6))) ∷ [] else if d then Detached (number_at q.1 0) ∷ [] else []) ++ link_steps n h)
           ((if a then event.Began (number_at q.1 4) ∷ [] else if b then attach_events (name_in (text_of (field q.1 0))) q.1 else if c then
-          event.FlowCame (number_at q.1 4) (number_in (field q.1 5)) (credit_of (number_in (field q.1 6))) (is_true (field q.1 8)) (is_true (field q.1 9)) ∷ [] else rest) ++ es)
-      heard_by true true c e f g fine rest m = absurd (apart_codes q.0 17 18 e f refl)
-      heard_by true false true e f g fine rest m = absurd (apart_codes q.0 17 19 e (first_is (q.0 == 19) _ g) refl)
-      heard_by true false false e f g fine rest m = r.mute (link_steps n h) (event.Began (number_at q.1 4)) s refl (tied_after life es) all
-      heard_by false true c e f g fine rest m = attach_agrees (name_in (text_of (field q.1 0))) refl (fine refl)
-      heard_by false false true e f g fine rest m = r.flow_came (link_steps n h) _ _ _ _ _ s (tied_after life es) all
-      heard_by false false false e f g fine rest m = all_mute P r life (link_steps n h) rest es m all
+          event.FlowCame (number_at q.1 4) (number_in (field q.1 5)) (credit_of (number_in (field q.1 6))) (is_true (field q.1 8)) (is_true (field q.1 9)) ∷ [] else
+          if t then ts else if o then os else if d then event.DetachCame (number_at q.1 0) (is_not_found (condition_in (field q.1 2))) ∷ [] else ls) ++ es)
+      heard_by true true c d e f g i fine t o u v ts os ls x y z = absurd (apart_codes q.0 17 18 e f refl)
+      heard_by true false true d e f g i fine t o u v ts os ls x y z = absurd (apart_codes q.0 17 19 e (first_is (q.0 == 19) _ g) refl)
+      heard_by true false false true e f g i fine t o u v ts os ls x y z = absurd (apart_codes q.0 17 22 e i refl)
+      heard_by true false false false e f g i fine t o u v ts os ls x y z = r.mute (link_steps n h) (event.Began (number_at q.1 4)) s refl (tied_after life es) all
+      heard_by false true c d e f g i fine t o u v ts os ls x y z = attach_agrees (name_in (text_of (field q.1 0))) refl (fine refl)
+      heard_by false false true d e f g i fine t o u v ts os ls x y z = r.flow_came (link_steps n h) _ _ _ _ _ s (tied_after life es) all
+      heard_by false false false true e f g i fine true o u v ts os ls x y z = absurd (apart_codes q.0 20 22 u i refl)
+      heard_by false false false true e f g i fine false true u v ts os ls x y z = absurd (apart_codes q.0 21 22 v i refl)
+      heard_by false false false true e f g i fine false false u v ts os ls x y z = r.detach_came (link_steps n h) _ _ s (tied_after life es) all
+      heard_by false false false false e f g i fine true o u v ts os ls x y z = all_mute P r life (link_steps n h) ts es x all
+      heard_by false false false false e f g i fine false true u v ts os ls x y z = all_mute P r life (link_steps n h) os es y all
+      heard_by false false false false e f g i fine false false u v ts os ls x y z = all_mute P r life (link_steps n h) ls es z all
 
       -- where nothing is at fault
       fine_agrees : scope_in (peers h) n q payload ≡ None → Agrees ((heard_step q) ++ link_steps n h) (fine_events (connection h) n q payload (path_at (paths_in h) n) ++ es)
       fine_agrees fine =
           subst (λ (xs : List PathEvent). Agrees ((heard_step q) ++ link_steps n h) xs) (sym (append_assoc closes (heard_events lim n q payload s0) es))
           (all_mute P r life (heard_step q ++ link_steps n h) closes (heard_events lim n q payload s0 ++ es) (closes_mute (q.0 == 17))
-          (heard_by (q.0 == 17) (q.0 == 18) ((q.0 == 19) && not (is_of_session q.1)) refl refl refl no_attach_fault _ (rest_all IsMute mute lim n q payload s0)))
+          (heard_by (q.0 == 17) (q.0 == 18) ((q.0 == 19) && not (is_of_session q.1)) (q.0 == 22) refl refl refl refl no_attach_fault (q.0 == 20) (q.0 == 21) refl refl _ _ _
+          (transfer_all IsMute mute (fault_in q.1 payload s0) lim n (number_at q.1 0) q payload s0) (outcome_all IsMute mute q) (lost_all IsMute mute (q.0 == 23))))
         where
           lim : ℕ
           lim = (connection h).limits.frame_max
@@ -406,15 +422,16 @@ heard_asks n h u = by (ran_out_in h) (meaning_by (container h) u)
     answer None peer = tt
     answer (Some name) peer = (refl, tt)
 
-    part : (q : Parts) (b c : Bool) → AllByRecursion (λ x. asks x ≡ false)
+    part : (q : Parts) (b c d : Bool) → AllByRecursion (λ x. asks x ≡ false)
         (if b then answer_step (name_in (text_of (field q.1 0))) (number_at q.1 1) else if c then
-        Flowed (number_at q.1 4) (number_in (field q.1 5)) (credit_of (number_in (field q.1 6))) ∷ [] else [])
-    part q true c = answer _ _
-    part q false true = (refl, tt)
-    part q false false = tt
+        Flowed (number_at q.1 4) (number_in (field q.1 5)) (credit_of (number_in (field q.1 6))) ∷ [] else if d then Detached (number_at q.1 0) ∷ [] else [])
+    part q true c d = answer _ _
+    part q false true d = (refl, tt)
+    part q false false true = (refl, tt)
+    part q false false false = tt
 
     at : (b : Bool) (q : Parts) → AllByRecursion (λ x. asks x ≡ false) (if b then heard_step q else [])
-    at true q = part q (q.0 == 18) ((q.0 == 19) && not (is_of_session q.1))
+    at true q = part q (q.0 == 18) ((q.0 == 19) && not (is_of_session q.1)) (q.0 == 22)
     at false q = tt
 
     by : (b : Bool) (m : Meaning) → AllByRecursion (λ x. asks x ≡ false) (if b then [] else meaning_step n m)
@@ -472,6 +489,7 @@ asks_none m [] ys a = refl
 asks_none m (Asked link handle name receives ∷ xs) ys a = absurd (let no : true ≡ false = a.0 in cc)
 asks_none m (Answered name peer ∷ xs) ys a = asks_none m xs ys a.1
 asks_none m (Flowed peer count credit ∷ xs) ys a = asks_none m xs ys a.1
+asks_none m (Detached peer ∷ xs) ys a = asks_none m xs ys a.1
 asks_none m (Begun handle ∷ xs) ys a = asks_none m xs ys a.1
 asks_none m (Told link handle count ∷ xs) ys a = asks_none m xs ys a.1
 

@@ -142,9 +142,9 @@ module _ (r : Bool) (n : ℕ) where
       at h None e = f
       at h (Some l) e = either (is_given l)
         where
-          either : (b : Bool) → Fit (cond b (dropped l.link s.links) (put (left_by l) s.links))
+          either : (b : Bool) → Fit (cond b (dropped l.link s.links) (put (left_by s.sending l) s.links))
           either true = left_fit (λ k. not (has_number l.link k)) s.links t.rising f
-          either false = put_fit (is_at h) s.links l (left_by l) t.rising e refl refl (λ u. refl) f
+          either false = put_fit (is_at h) s.links l (left_by s.sending l) t.rising e refl refl (λ u. refl) f
 
       by : (o : Option ℕ) → Fit (detached_on (at_handle o s.links) s).links
       by None = f

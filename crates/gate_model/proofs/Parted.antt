@@ -163,7 +163,7 @@ pub record IsKept (T : PathLink → Type 0) : Type 0 where
 
 -- and what an event needs that makes one part
 abbrev pub Suits : (PathLink → Type 0) → PathState → PathEvent → Type 0
-Suits T s (event.DetachCame peer not_found) = (l : PathLink) → named peer s.links ≡ Some l → is_given l ≡ false → T (left_by l)
+Suits T s (event.DetachCame peer not_found) = (l : PathLink) → named peer s.links ≡ Some l → is_given l ≡ false → T (left_by s.links.sending l)
 Suits T s (event.LinkFailed peer fault) = (l : PathLink) → named peer s.links ≡ Some l → T (failed_by fault l)
 Suits T s x = Unit {0}
 
@@ -214,7 +214,7 @@ module _ (Fine : PathLink → Type 0) (kept : IsKept Fine) where
       by None e = a
       by (Some l) e = put_fine (told_by drain echo l) s.links (kept.told drain echo l (at_fine _ s l a e)) a
 
-  detaches : (peer : ℕ) (s : LinksState) → ((l : PathLink) → named peer s ≡ Some l → is_given l ≡ false → Fine (left_by l)) → AreFine s
+  detaches : (peer : ℕ) (s : LinksState) → ((l : PathLink) → named peer s ≡ Some l → is_given l ≡ false → Fine (left_by s.sending l)) → AreFine s
       → AreFine (link_detached peer s)
   detaches peer s fits a = by (named peer s) refl
     where
@@ -222,9 +222,9 @@ module _ (Fine : PathLink → Type 0) (kept : IsKept Fine) where
       by None e = a
       by (Some l) e = either (is_given l) refl
         where
-          either : (b : Bool) → is_given l ≡ b → AllByRecursion Fine (cond b (dropped l.link s.links) (put (left_by l) s.links))
+          either : (b : Bool) → is_given l ≡ b → AllByRecursion Fine (cond b (dropped l.link s.links) (put (left_by s.sending l) s.links))
           either true f = all_filter _ Fine s.links a
-          either false f = put_fine (left_by l) s.links (fits l e f) a
+          either false f = put_fine (left_by s.sending l) s.links (fits l e f) a
 
   fails : (peer : ℕ) (fault : TransferFault) (s : LinksState) → ((l : PathLink) → named peer s ≡ Some l → Fine (failed_by fault l)) → AreFine s
       → AreFine (link_failed peer fault s)

@@ -193,9 +193,9 @@ module _ (F : ℕ → Option TransferFault) where
       by None e = none e
       by (Some l) e = either (is_given l)
         where
-          either : (b : Bool) → AreFine (cond b (dropped l.link s.links) (put (left_by l) s.links))
+          either : (b : Bool) → AreFine (cond b (dropped l.link s.links) (put (left_by s.sending l) s.links))
           either true = without l.link s.links (there l e).1
-          either false = put_fine (left_by l) s.links (λ g. sym (there l e).0) (there l e).1
+          either false = put_fine (left_by s.sending l) s.links (λ g. sym (there l e).0) (there l e).1
 
   fails : (peer : ℕ) (fault : TransferFault) (s : LinksState) → ((l : PathLink) → taking_in (named peer s) ≡ Some l → (F l.link ≡ Some fault) × AreElse l.link s.links)
       → (taking_in (named peer s) ≡ None → AreFine s.links) → AreFine (link_failed peer fault s).links

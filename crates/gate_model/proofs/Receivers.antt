@@ -93,9 +93,9 @@ detaches peer s a = by (named peer s) refl
     by None e = a
     by (Some l) e = either (is_given l)
       where
-        either : (b : Bool) → AllByRecursion IsUnowed (cond b (dropped l.link s.links) (put (left_by l) s.links))
+        either : (b : Bool) → AllByRecursion IsUnowed (cond b (dropped l.link s.links) (put (left_by s.sending l) s.links))
         either true = all_filter _ IsUnowed s.links a
-        either false = put_unowed (left_by l) s.links (named_unowed peer s l a e) a
+        either false = put_unowed (left_by s.sending l) s.links (λ is. let none = named_unowed peer s l a e is in omega (arith, none)) a
 
 fails : (peer : ℕ) (fault : TransferFault) (s : LinksState) → AreUnowed s → AreUnowed (link_failed peer fault s)
 fails peer fault s a = by (named peer s) refl

@@ -524,9 +524,9 @@ detached f a c not_found peer s ds t h = by (named peer s) refl
         others : (n : ℕ) → (l.link == n) ≡ false → find (has_number n) u.links ≡ find (has_number n) s.links
         others n ne = kind (is_given l)
           where
-            kind : (g : Bool) → find (has_number n) (cond g (dropped l.link s.links) (put (left_by l) s.links)) ≡ find (has_number n) s.links
+            kind : (g : Bool) → find (has_number n) (cond g (dropped l.link s.links) (put (left_by s.sending l) s.links)) ≡ find (has_number n) s.links
             kind true = dropped_other n l.link s.links ne
-            kind false = placed_other n (left_by l) s.links ne
+            kind false = placed_other n (left_by s.sending l) s.links ne
 
         keeps : Keeps f u
         keeps = removed f s u l.link refl others h.keeps

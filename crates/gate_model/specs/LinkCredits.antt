@@ -30,6 +30,8 @@ pub data LinkStep : Type 0 where
   -- its flow on the link with this handle of it came, with its delivery-count and link-credit
   -- (2.7.4)
   Flowed : (peer : ℕ) (count : Option ℕ) (credit : ℕ) → LinkStep
+  -- its detach of that link came (2.7.7)
+  Detached : (peer : ℕ) → LinkStep
   -- the first frame of a transfer went
   Begun : (handle : ℕ) → LinkStep
   -- a flow of the gateway on that link went, with its delivery-count
@@ -43,6 +45,8 @@ pub record Credit : Type 0 where
   pub receives : Bool
   -- the container's handle of the link, once its attach came
   pub peer : Option ℕ
+  -- its detach came
+  pub ended : Bool
   -- the delivery-count and the link-credit of its last flow
   pub stated : ℕ
   pub credit : ℕ
@@ -62,6 +66,7 @@ new_credit link name receives = record {
   name = name;
   receives = receives;
   peer = None;
+  ended = false;
   stated = 0;
   credit = 0;
   count = 0;
@@ -76,10 +81,14 @@ abbrev pub is_peer : ℕ → Option ℕ → Bool
 is_peer peer None = false
 is_peer peer (Some p) = p == peer
 
--- what a flow states takes the place of the old
+-- what a flow states takes the place of the old; none comes behind the container's detach (2.6.6)
 abbrev pub flowed : ℕ → Option ℕ → ℕ → Credit → Credit
 flowed peer count credit c =
-    if is_peer peer c.peer then record c { stated = or_initial count; credit = credit } else c
+    if is_peer peer c.peer && not c.ended
+    then record c { stated = or_initial count; credit = credit } else c
+
+abbrev pub detached : ℕ → Credit → Credit
+detached peer c = if is_peer peer c.peer then record c { ended = true } else c
 
 abbrev pub begun : Credit → Credit
 begun c = record c { count = advanced c.count 1 }
@@ -96,6 +105,7 @@ after_step h (Asked link k name receives) o =
     if k == h then Some (new_credit link name receives) else o
 after_step h (Answered name peer) o = option_map (answered name peer) o
 after_step h (Flowed peer count credit) o = option_map (flowed peer count credit) o
+after_step h (Detached peer) o = option_map (detached peer) o
 after_step h (Begun k) o = if k == h then option_map begun o else o
 after_step h (Told link k count) o = if k == h then option_map (told link count) o else o
 
@@ -115,7 +125,8 @@ given_step (unit.Dispose x) = []
 given_step (unit.Settle x) = []
 given_step (unit.Detach link handle why) = []
 
--- a performative of the container: an attach under the name of a link, or a flow on one
+-- a performative of the container: an attach under the name of a link, or a flow on one or
+-- a detach of it
 abbrev pub answer_step : Option ℕ → ℕ → List LinkStep
 answer_step None peer = []
 answer_step (Some name) peer = Answered name peer ∷ []
@@ -125,6 +136,7 @@ heard_step p =
     if p.0 == 18 then answer_step (name_in (text_of (field p.1 0))) (number_at p.1 1)
     else if p.0 == 19 && not (is_of_session p.1) then
     Flowed (number_at p.1 4) (number_in (field p.1 5)) (credit_of (number_in (field p.1 6))) ∷ []
+    else if p.0 == 22 then Detached (number_at p.1 0) ∷ []
     else []
 
 -- those of the session of channel n

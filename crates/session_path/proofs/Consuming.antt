@@ -1,5 +1,5 @@
 -- The tag of a consumer.
-use Rattle.std.proofs.Common.{◌≡◌, ◌∙◌, ℕ, suc, ◌+◌, List, Bool, true, false, Option, Some, ap, sym}
+use Rattle.std.proofs.Common.{◌≡◌, ◌∙◌, ℕ, suc, ◌+◌, List, true, false, ap, sym}
 use Rattle.std.proofs.Common.{cond}
 use Rattle.consume_path.specs.Links.{is_tag_used}
 use Rattle.consume_path.specs.declared.receiving.ReceivingLink.{ReceivingLink}

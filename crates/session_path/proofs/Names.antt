@@ -1,6 +1,6 @@
 -- The names that answers give back.
-use Rattle.std.proofs.Common.{◌≡◌, ◌∙◌, ℕ, List, [], ◌∷◌, ◌++◌, Bool, true, false, Option, Some}
-use Rattle.std.proofs.Common.{None, drop, refl, sym, ap, cond, subst}
+use Rattle.std.proofs.Common.{◌≡◌, ◌∙◌, ℕ, List, [], ◌∷◌, ◌++◌, Bool, true, false}
+use Rattle.std.proofs.Common.{drop, refl, sym, ap, cond, subst}
 use Rattle.consume_path.specs.Offers.{next_settle_of}
 use Rattle.session_path.specs.Links.{asked_by, attached, named, parted}
 use Rattle.session_path.specs.Path.{PathState, detaching_of, first_of, get_link, gives_name}
