@@ -138,7 +138,7 @@ module _ (f : ℕ → Option Credit) (s : PathState) (t : Tied s.links) (all : A
       ungiven false owes i = refl
 
       -- by whether the container detached it
-      abbrev OfLink : Bool → Type 0
+      OfLink : Bool → Type 0
       OfLink left = Known f (handle_of l.stage) (cond left l.count (count_in (link_of s.links.sending l.link))) (cond left l.credit (credit_in (link_of s.links.sending l.link))) (l.echoes == 0)
 
       of_kept : (x : SendingLink) → link_of s.links.sending l.link ≡ Some x → Known f (handle_of l.stage) x.state.count x.state.credit (l.echoes == 0) → (b : Bool) → is_left l ≡ b → b ≡ false → OfLink b
