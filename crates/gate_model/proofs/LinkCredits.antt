@@ -1176,8 +1176,11 @@ module _ (f : ℕ → Option Credit) (peer : ℕ) (s : LinksState) (t : Tied s) 
     detached_agree = by (is_given l) refl
       where
         by : (b : Bool) → is_given l ≡ b
-            → AllAgree detach_fold (record { sending = without l.link s.sending; links = cond b (dropped l.link s.links) (put (left_by s.sending l) s.links);
-            handles = with_state (handle_of l.stage) (with_read (state_of s.handles (handle_of l.stage))) s.handles })
+            → AllAgree detach_fold (record {
+              sending = without l.link s.sending;
+              links = cond b (dropped l.link s.links) (put (left_by s.sending l) s.links);
+              handles = with_state (handle_of l.stage) (with_read (state_of s.handles (handle_of l.stage))) s.handles;
+            })
         by true given =
             dropped_agree detach_fold s l (is_at h) t found around (without l.link s.sending) (with_read (state_of s.handles (handle_of l.stage)))
             (without_it detach_fold s l (is_at h) t found around) has_it (λ q is. read_named (state_of s.handles (handle_of l.stage)) q is)

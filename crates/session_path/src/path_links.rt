@@ -26,10 +26,10 @@ ghost use Rattle.session_path.specs.Links.{is_wanting, lower_if, lowest, given_o
 ghost use Rattle.session_path.specs.Links.{LinksState};
 
 use crate::links::{
-    answered, asked, count_of, count_parting, count_wanted, credit_of, detach_link, drop_left, drop_wanted_receiver,
-    drop_wanted_receivers, failed, first_asked_as, first_at, first_numbered, first_to_part,
-    first_wanted, given, handle, is_link_given, is_link_left, is_link_lower, is_link_open,
-    is_link_taking, lowest_free, put_link, told, told_once, wanted,
+    answered, asked, count_of, count_parting, count_wanted, credit_of, detach_link, drop_left,
+    drop_wanted_receiver, drop_wanted_receivers, failed, first_asked_as, first_at, first_numbered,
+    first_to_part, first_wanted, given, handle, is_link_given, is_link_left, is_link_lower,
+    is_link_open, is_link_taking, lowest_free, put_link, told, told_once, wanted,
 };
 use crate::path::{AttachDue, AttachFault, AttachHeard, FlowDue, PathLink, PathOk};
 use consume_path::{Deliveries, TransferFault};
