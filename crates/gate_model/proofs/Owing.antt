@@ -502,7 +502,7 @@ still_tells h p (inr e) = by (is_closing (before h).conn) (before h).by_peer (en
     by true b f = f
     by false b f = refl
 
-tells_all : (h : List Step) → ArePicks h → ran_out_in h ≡ false → (is_closing (connection h) ≡ false) ⊎ (ended_by_container h ≡ true) → may_confirm_all (before h) ≡ true
+pub tells_all : (h : List Step) → ArePicks h → ran_out_in h ≡ false → (is_closing (connection h) ≡ false) ⊎ (ended_by_container h ≡ true) → may_confirm_all (before h) ≡ true
 tells_all h p memory on = ap (λ (b : Bool). not (b || is_closing (before h).conn) || (before h).by_peer) (memory_is (known h p) ∙ memory) ∙ still_tells h p on
 
 -- or no connection.close and no close-ok was sent whole
