@@ -329,7 +329,7 @@ fn confirm_on(may: bool, paths: &Paths, channel: u16) -> Option<Reply>
     Some(Reply::OnChannel(channel, ChannelUnit::Confirm(confirm)))
 }
 
-/// The frame that goes on with a return of a channel.
+/// The frame that goes on with a return of a channel, if one may.
 fn content_on(may: bool, paths: &Paths, channel: u16) -> Option<Reply>
     ensures { result ≡ first (content_on may channel (next_return (path_at paths.now channel))) }
 {
@@ -343,14 +343,20 @@ fn content_on(may: bool, paths: &Paths, channel: u16) -> Option<Reply>
     Some(Reply::OnChannel(channel, ChannelUnit::Return(due)))
 }
 
+/// The same, by the life of the channel.
+fn rest_on(life: Life, paths: &Paths, channel: u16, all: bool) -> Option<Reply>
+    ensures { result ≡ first (contents_on all paths.now channel life) }
+{
+    content_on(may_go_on(all, life), paths, channel)
+}
+
 /// The first frame that goes on with a return.
 #[tactic(auto, using(crate::proofs::Rows::contents_end))]
 pub fn first_content(lives: &[Life; CHANNELS], paths: &Paths, all: bool) -> Option<Reply>
     ensures { result ≡ first (each (contents_on all paths.now) 0 lives.now) }
 {
     for i in 0..paths.top() {
-        let may = may_go_on(all, lives[i as usize]);
-        if let Some(unit) = content_on(may, paths, i) {
+        if let Some(unit) = rest_on(lives[i as usize], paths, i, all) {
             return Some(unit);
         }
     }
