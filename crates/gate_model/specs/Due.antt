@@ -239,12 +239,12 @@ may_answer w = not (w.out_of_memory || is_closing w.conn)
 abbrev pub may_end : State → Bool
 may_end w = not (w.out_of_memory || (w.sent_last.close || w.sent_last.close_ok))
 
--- what is owed for publishes of an open channel goes as the answers do, and where the container
--- was the cause that the connection closes; on a channel that its container closed it goes as what
--- ends channels does too
+-- what is owed for publishes goes on each channel whose life goes on while the answers do, and where
+-- the container was the cause that the connection closes
 abbrev pub may_confirm_all : State → Bool
 may_confirm_all w = may_answer w || w.by_peer
 
+-- of a life that is over it goes where the container was the cause, whatever closes behind it
 abbrev pub may_confirm : Bool → Life → Bool
 may_confirm all l = if l.over then l.by_peer else all
 
@@ -296,8 +296,8 @@ refused_on settled n (Some r) = when settled (reply.ChannelClose n r)
 abbrev pub channel_closes : State → List Reply
 channel_closes w = each (λ n l. refused_on (is_channel_settled w n) n l.close) 0 w.lives
 
--- what is owed for publishes goes on some channel; and frames of returns until the pair runs out of
--- memory
+-- so it goes on some channel: on these, or on one that its container closed, until a
+-- connection.close or its close-ok went; and frames of returns until the pair runs out of memory
 abbrev pub may_confirm_some : State → Bool
 may_confirm_some w = may_confirm_all w || may_end w
 
