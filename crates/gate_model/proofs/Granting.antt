@@ -17,7 +17,7 @@ use Rattle.consume_path.specs.declared.receiving.NextGrant.{NextGrant}
 use Rattle.consume_path.specs.declared.receiving.ReceivingLink.{ReceivingLink}
 use Rattle.session_path.specs.Due.{due_in, flow_due, grant_due, next_flow}
 use Rattle.session_path.specs.Events.{PathEvent, after_events, deliveries_of}
-use Rattle.session_path.specs.Links.{has_number, is_parting}
+use Rattle.session_path.specs.Links.{has_number, is_given}
 use Rattle.session_path.specs.Path.{PathState, flow_of, grant_in, granting_on, is_grant_next, may_drain, owes_flow}
 use Rattle.session_path.specs.declared.path.FlowDue.{FlowDue}
 use Rattle.session_path.specs.declared.path.PathLink.{PathLink}

@@ -282,7 +282,8 @@ module _ (P : List LinkStep → LinksState → Type 0) (r : Rules P) (n life : �
       heard_by false false true d e f g i fine t o u v ts os ls x y z = r.flow_came (link_steps n h) _ _ _ _ _ s (tied_after life es) all
       heard_by false false false true e f g i fine true o u v ts os ls x y z = absurd (apart_codes q.0 20 22 u i refl)
       heard_by false false false true e f g i fine false true u v ts os ls x y z = absurd (apart_codes q.0 21 22 v i refl)
-      heard_by false false false true e f g i fine false false u v ts os ls x y z = r.detach_came (link_steps n h) _ _ s (tied_after life es) all
+      heard_by false false false true e f g i fine false false u v ts os ls x y z =
+          r.detach_came (link_steps n h) (number_at q.1 0) (is_not_found (condition_in (field q.1 2))) s (tied_after life es) all
       heard_by false false false false e f g i fine true o u v ts os ls x y z = all_mute P r life (link_steps n h) ts es x all
       heard_by false false false false e f g i fine false true u v ts os ls x y z = all_mute P r life (link_steps n h) os es y all
       heard_by false false false false e f g i fine false false u v ts os ls x y z = all_mute P r life (link_steps n h) ls es z all
