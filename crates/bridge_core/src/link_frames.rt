@@ -31,16 +31,6 @@ const ADDRESS_MAX: usize = 255;
 /// The bytes of a message that the gateway takes, at most.
 const MESSAGE_MAX: u64 = 16_842_752;
 
-/// Lets go of a performative, once it is written.
-fn release(perf: Perf) {
-    match perf {
-        Perf::Attach(attach) => drop(attach),
-        Perf::Flow(flow) => drop(flow),
-        Perf::Transfer(transfer) => drop(transfer),
-        _ => {}
-    }
-}
-
 /// Whether a text is UTF-8.
 pub fn is_utf8(text: &[u8]) -> bool
     ensures { result ≡ is_utf8 text.now }
@@ -291,7 +281,7 @@ pub fn attach_frame(
     }
     let perf = attach_of(alloc, attach, address)?;
     let frame = frame_of(alloc, channel, &perf, &[]);
-    release(perf);
+    drop(perf);
     frame
 }
 
@@ -302,7 +292,7 @@ pub fn flow_frame(alloc: Global, channel: u16, flow: LinkFlow) -> Result<ByteTex
 {
     let perf = flow_of(flow);
     let frame = frame_of(alloc, channel, &perf, &[]);
-    release(perf);
+    drop(perf);
     frame
 }
 
@@ -318,6 +308,6 @@ pub fn transfer_frame(
 {
     let perf = transfer_of(alloc, transfer)?;
     let frame = frame_of(alloc, channel, &perf, part);
-    release(perf);
+    drop(perf);
     frame
 }

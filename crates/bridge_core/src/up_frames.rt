@@ -92,17 +92,6 @@ fn init_of(alloc: Global, container: &Conn10) -> Result<Perf, Memory>
     }))
 }
 
-/// Lets go of a performative, once it is written.
-fn release(perf: Perf) {
-    match perf {
-        Perf::Open(open) => drop(open),
-        Perf::SaslInit(init) => drop(init),
-        Perf::Begin(begin) => drop(begin),
-        Perf::Flow(flow) => drop(flow),
-        _ => {}
-    }
-}
-
 /// Writes the frame of a performative over the first bytes of a room, and answers their count.
 #[tactic(auto, using(crate::proofs::Lengths::frame_len))]
 fn write_perf(
@@ -148,7 +137,7 @@ fn write_open(
 {
     let perf = open_of(alloc, setup, number)?;
     let written = write_perf(room, alloc, Kind10::Amqp, 0, &perf);
-    release(perf);
+    drop(perf);
     written
 }
 
@@ -163,7 +152,7 @@ fn write_init(room: &mut [u8; ROOM], alloc: Global, container: &Conn10) -> Resul
 {
     let perf = init_of(alloc, container)?;
     let written = write_perf(room, alloc, Kind10::Sasl, 0, &perf);
-    release(perf);
+    drop(perf);
     written
 }
 
@@ -193,7 +182,7 @@ fn write_begin(room: &mut [u8; ROOM], alloc: Global, channel: u16) -> Result<usi
 {
     let perf = begin();
     let written = write_perf(room, alloc, Kind10::Amqp, channel, &perf);
-    release(perf);
+    drop(perf);
     written
 }
 
@@ -232,7 +221,7 @@ fn write_flow(
 {
     let perf = flow(incoming, outgoing);
     let written = write_perf(room, alloc, Kind10::Amqp, channel, &perf);
-    release(perf);
+    drop(perf);
     written
 }
 
