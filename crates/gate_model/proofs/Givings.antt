@@ -18,20 +18,20 @@ use Rattle.machine_10.specs.Transitions.{Meaning}
 use Rattle.methods_091.specs.declared.method.Method91.{Method91}
 use Rattle.methods_091.specs.declared.method.Method91.TheVariants as method
 use Rattle.session_path.specs.Events as event
-use Rattle.session_path.specs.Events.{PathEvent, after_events}
+use Rattle.session_path.specs.Events.{PathEvent}
 use Rattle.session_path.specs.Path.{PathState}
 use Rattle.session_path.specs.declared.path.PathOk.TheVariants as ok
 use Rattle.types_10.specs.Tree.{Tree}
 use Rattle.gate_model.specs.Folds.{Peers, connection, container, going_in, leaving_in, paths_in, peers, ran_out_in, routes_in, scope_in}
 use Rattle.gate_model.specs.Lives.{is_of_channel}
-use Rattle.gate_model.specs.Paths.{fault_in, is_not_found, is_outcome, name_in, outcome_in, part_in, path_at, text_of}
+use Rattle.gate_model.specs.Paths.{fault_in, is_outcome, name_in, outcome_in, part_in, path_at, text_of}
 use Rattle.gate_model.specs.Publishing.{attach_events, closed_if, closing, ending, heard_events, meaning_events, method_events}
 use Rattle.gate_model.specs.Publishing.{owed_unless, reply_events, session_events, step_events}
 use Rattle.gate_model.specs.Publishing.{told_event, transfer_event, up_events, want_events, wrote_event, wrote_events}
 use Rattle.gate_model.specs.Session.{is_of_session, is_true}
 use Rattle.gate_model.specs.State.{Came, Fed, Gave, Heard, Joined, LinesTold, Lost, Moment, OutOfMemory, Silent, Step, TakenUp, Whole}
 use Rattle.gate_model.specs.State.{closing_code, conn_step, want_in}
-use Rattle.gate_model.specs.Upstream.{condition_in, meaning_by}
+use Rattle.gate_model.specs.Upstream.{meaning_by}
 use Rattle.gate_model.specs.declared.channel.ChannelUnit.{ChannelUnit}
 use Rattle.gate_model.specs.declared.channel.ChannelUnit.TheVariants as to_client
 use Rattle.gate_model.specs.declared.outgoing.Outgoing.TheVariants.{ToClient, ToUp}

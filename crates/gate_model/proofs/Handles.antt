@@ -21,7 +21,7 @@ use Rattle.session_path.proofs.Fresh.{IsFresh, fresh_after}
 use Rattle.session_path.proofs.Idle.{detaching_there}
 use Rattle.session_path.proofs.SameLinks.{dropped_same}
 use Rattle.session_path.proofs.Tied.{Tied, tied_after}
-use Rattle.session_path.proofs.Ties.{and_left, eq_of, found_passes}
+use Rattle.session_path.proofs.Ties.{eq_of, found_passes}
 use Rattle.gate_model.specs.Folds.{connection, peers, side_in}
 use Rattle.gate_model.specs.Handles.{MayName, NamesItsHandles, handle_by, handle_in, handle_step, handle_up}
 use Rattle.gate_model.specs.Paths.{or_no_path, path_at, slot_at}

@@ -30,7 +30,7 @@ use Rattle.session_path.specs.declared.path.AttachHeard.{AttachHeard}
 use Rattle.session_path.specs.Links.{LinksState, Rises, answered as answered_link, attached_as, attached_if}
 use Rattle.session_path.specs.Links.{at_handle, count_in, credit_in, detached_on, failed_by, failed_on, flowed_on, free_number, given_by, given_on, gone_on}
 use Rattle.session_path.specs.Links.{handle_in, handle_of, has_number, is_asked_as, is_at, is_given, is_left}
-use Rattle.session_path.specs.Links.{is_one, is_parting, is_stage_asked, is_stage_at, is_stage_failed, is_stage_given, is_stage_left, is_stage_open, is_stage_whole, is_wanted, is_wanted_receiver, left_by}
+use Rattle.session_path.specs.Links.{is_one, is_stage_asked, is_stage_at, is_stage_failed, is_stage_given, is_stage_left, is_stage_open, is_stage_whole, is_wanted, is_wanted_receiver, left_by}
 use Rattle.session_path.specs.Links.{link_detached, link_failed, linked_to, meets, named, parted, put}
 use Rattle.session_path.specs.Links.{told_by, wanted_link, with_link_to, with_receiver, without_receivers}
 use Rattle.session_path.proofs.Ties.{and_left, and_right, apart_from, dropped, eq_of, eq_to, found_number, found_passes, gone_is}

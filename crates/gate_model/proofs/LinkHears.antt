@@ -14,7 +14,7 @@ use Rattle.consume_path.specs.Offers.{next_settle_of}
 use Rattle.consume_path.specs.declared.receiving.TransferFault.{TransferFault}
 use Rattle.session_path.specs.Due.{attach_of, next_attach}
 use Rattle.session_path.specs.Events as event
-use Rattle.session_path.specs.Events.{PathEvent, after_event, after_events}
+use Rattle.session_path.specs.Events.{PathEvent, after_event}
 use Rattle.session_path.specs.Links.{LinksState, answered, asked_as as asked_link_as, asked_by, asked_on, at_handle, attach_fault, attached, attached_as, detached_on}
 use Rattle.session_path.specs.Links.{failed_by, failed_on, flowed_on, free_number, given_by, given_on, gone_from, gone_on, handle_at, handle_in, handle_of, has_number, is_asked_as, is_at}
 use Rattle.session_path.specs.Links.{is_given, is_given_back, is_half, is_left, is_stage_asked, is_stage_at, is_stage_failed, is_stage_open, is_stage_whole, is_wanted, is_wanted_receiver, is_whole, left_by, limited, link_detached, link_failed, link_flowed}

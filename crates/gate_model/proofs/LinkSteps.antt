@@ -26,7 +26,7 @@ use Rattle.session_path.specs.Events as event
 use Rattle.session_path.specs.Events.{PathEvent, after_events}
 use Rattle.session_path.proofs.Ties.{ne_to}
 use Rattle.link_table.specs.Table.{new_table}
-use Rattle.session_path.specs.Links.{LinksState, handle_at, handle_of, has_number, named}
+use Rattle.session_path.specs.Links.{LinksState, handle_at, handle_of, has_number}
 use Rattle.session_path.specs.Path.{PathState, granting}
 use Rattle.session_path.specs.declared.path.AttachDue.{AttachDue}
 use Rattle.session_path.specs.declared.path.AttachFault.{AttachFault}
