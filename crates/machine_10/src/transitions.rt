@@ -81,6 +81,14 @@ fn nothing() -> Want10
     Want10::Nothing
 }
 
+/// No want of a performative that is passed over.
+fn let_go(whole: Whole10) -> Want10
+    ensures { meaning_of result ≡ Nothing }
+{
+    drop(whole);
+    nothing()
+}
+
 impl Upstream {
     // ---- the calls
 
@@ -191,8 +199,15 @@ impl Upstream {
         ensures want { meaning_of result ≡ (body_step self.old kind channel (body_of body)).1 }
     {
         match check_body(self, self.phase, kind, channel, &body) {
-            Some(Ruling10::Violated(condition)) => self.refuse(condition, closes(kind, &body)),
-            Some(Ruling10::PassedOver) => nothing(),
+            Some(Ruling10::Violated(condition)) => {
+                let closes = closes(kind, &body);
+                drop(body);
+                self.refuse(condition, closes)
+            }
+            Some(Ruling10::PassedOver) => {
+                drop(body);
+                nothing()
+            }
             None => self.apply_body(self.phase, channel, body),
         }
     }
@@ -233,12 +248,12 @@ impl Upstream {
         ensures want { meaning_of result ≡ (perf_effect phase self.old channel whole.0 whole.1).1 }
     {
         match phase {
-            Phase10::Mechanisms => self.apply_offer(&whole),
-            Phase10::Outcome => self.apply_login(whole.act()),
-            Phase10::Open => self.apply_open(whole.act()),
+            Phase10::Mechanisms => self.apply_offer(whole),
+            Phase10::Outcome => self.apply_login(whole.into_act()),
+            Phase10::Open => self.apply_open(whole.into_act()),
             Phase10::Running => self.apply_running(channel, whole),
             Phase10::SaslHeader | Phase10::AmqpHeader | Phase10::Closing | Phase10::Closed => {
-                nothing()
+                let_go(whole)
             }
         }
     }
@@ -246,13 +261,15 @@ impl Upstream {
     // ---- the login
 
     /// A performative where sasl-mechanisms is awaited.
-    fn apply_offer(&mut self, whole: &Whole10) -> Want10
-        ensures state { self.new ≡ (mechanisms_effect self.old (field whole.now.0.1 0)
-            (act_of whole.now.0)).0 }
-        ensures want { meaning_of result ≡ (mechanisms_effect self.old (field whole.now.0.1 0)
-            (act_of whole.now.0)).1 }
+    fn apply_offer(&mut self, whole: Whole10) -> Want10
+        ensures state { self.new ≡ (mechanisms_effect self.old (field whole.0.1 0)
+            (act_of whole.0)).0 }
+        ensures want { meaning_of result ≡ (mechanisms_effect self.old (field whole.0.1 0)
+            (act_of whole.0)).1 }
     {
-        self.apply_mechanisms(whole.perf())
+        let want = self.apply_mechanisms(whole.perf());
+        drop(whole);
+        want
     }
 
     /// The same by the performative alone.
@@ -338,16 +355,15 @@ impl Upstream {
         ensures want { meaning_of result ≡ (running_effect self.old channel
             (act_of whole.0) whole.0 whole.1).1 }
     {
-        let mut whole = whole;
         match whole.act() {
             Act10::Begin(remote) => self.apply_begin(channel, remote, whole),
             Act10::Settle(_, _) | Act10::Within => match self.session_of(channel) {
                 Some(own) => whole.for_session(own),
-                None => nothing(),
+                None => let_go(whole),
             },
             Act10::End => self.apply_end(channel, whole),
-            Act10::Close => self.apply_close(&mut whole),
-            _ => nothing(),
+            Act10::Close => self.apply_close(whole),
+            _ => let_go(whole),
         }
     }
 
@@ -358,7 +374,7 @@ impl Upstream {
             (begin_effect self.old channel remote whole.0 whole.1).1 }
     {
         let Some(own) = remote else {
-            return nothing();
+            return let_go(whole);
         };
         match self.session(own) {
             Session::Asked => {
@@ -367,9 +383,11 @@ impl Upstream {
             }
             Session::Left => {
                 self.set_session(own, Session::Leaving(channel));
-                nothing()
+                let_go(whole)
             }
-            Session::Free | Session::Open(_) | Session::Leaving(_) | Session::Ended(_) => nothing(),
+            Session::Free | Session::Open(_) | Session::Leaving(_) | Session::Ended(_) => {
+                let_go(whole)
+            }
         }
     }
 
@@ -381,26 +399,28 @@ impl Upstream {
             (session_of self.old channel) whole.0 whole.1).1 }
     {
         let Some(own) = self.session_of(channel) else {
-            return nothing();
+            return let_go(whole);
         };
         match self.session(own) {
             Session::Open(number) => self.set_session(own, Session::Ended(number)),
             Session::Leaving(_) => self.set_session(own, Session::Free),
-            Session::Free | Session::Asked | Session::Left | Session::Ended(_) => return nothing(),
+            Session::Free | Session::Asked | Session::Left | Session::Ended(_) => {
+                return let_go(whole);
+            }
         }
         whole.for_session(own)
     }
 
     /// The container's close.
     #[tactic(auto, unfolding(crate::specs::Transitions::meaning_of))]
-    fn apply_close(&mut self, whole: &mut Whole10) -> Want10
-        requires { act_of whole.old.0 ≡ act.Close }
-        ensures state { self.new ≡ (close_effect self.old (field whole.old.0.1 0)).0 }
-        ensures want { meaning_of result ≡ (close_effect self.old (field whole.old.0.1 0)).1 }
+    fn apply_close(&mut self, whole: Whole10) -> Want10
+        requires { act_of whole.0 ≡ act.Close }
+        ensures state { self.new ≡ (close_effect self.old (field whole.0.1 0)).0 }
+        ensures want { meaning_of result ≡ (close_effect self.old (field whole.0.1 0)).1 }
     {
         self.phase = Phase10::Closed;
         self.stream = Stream10::Closed;
-        Want10::Closed(whole.take_error())
+        Want10::Closed(whole.into_error())
     }
 
     // ---- after a violation
@@ -426,10 +446,11 @@ impl Upstream {
         ensures state { self.new ≡ (late_body_step self.old kind channel (body_of body)).0 }
         ensures want { meaning_of result ≡ (late_body_step self.old kind channel (body_of body)).1 }
     {
-        // An arm each, as in `apply_body`.
         match check_body(self, Phase10::Running, kind, channel, &body) {
-            Some(Ruling10::Violated(_)) => nothing(),
-            Some(Ruling10::PassedOver) => nothing(),
+            Some(_) => {
+                drop(body);
+                nothing()
+            }
             None => self.apply_body(Phase10::Running, channel, body),
         }
     }

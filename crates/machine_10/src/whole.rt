@@ -56,6 +56,15 @@ impl Whole10 {
         act_of(&self.perf)
     }
 
+    /// The same, and the performative is let go.
+    pub(crate) fn into_act(self) -> Act10
+        ensures { result ≡ act_of self.0 }
+    {
+        let act = self.act();
+        drop(self);
+        act
+    }
+
     /// What a performative of a session wants, which is on this channel of the gateway.
     #[tactic(auto, unfolding(crate::specs::Transitions::meaning_of))]
     pub(crate) fn for_session(self, own: u16) -> Want10
@@ -64,12 +73,15 @@ impl Whole10 {
         Want10::Session(own, self.perf, self.payload)
     }
 
-    /// Takes a close's error out.
-    pub(crate) fn take_error(&mut self) -> Option<Error10>
-        requires { act_of self.old.0 ≡ act.Close }
-        ensures { maybe error_tree result ≡ field self.old.0.1 0 }
+    /// Takes a close's error out, and lets the rest go.
+    pub(crate) fn into_error(self) -> Option<Error10>
+        requires { act_of self.0 ≡ act.Close }
+        ensures { maybe error_tree result ≡ field self.0.1 0 }
     {
-        error_in(&mut self.perf)
+        let mut whole = self;
+        let error = error_in(&mut whole.perf);
+        drop(whole);
+        error
     }
 }
 
