@@ -1,5 +1,5 @@
 -- A basic.deliver goes where the rows of the answers have none on its channel.
-use Rattle.std.proofs.Common.{◌≡◌, ℕ, ◌<◌, not, ◌&&◌, ◌||◌, Bool, true, false, if◌then◌else◌, List, [], ◌∷◌, ◌++◌, length, Option, None, Some, refl, sym, ap}
+use Rattle.std.proofs.Common.{◌≡◌, ℕ, ◌<◌, not, ◌&&◌, Bool, true, false, if◌then◌else◌, List, [], ◌∷◌, ◌++◌, length, Option, None, Some, refl, sym, ap}
 use Rattle.std.proofs.Common.{◌∙◌, subst, map}
 use Rattle.machine_091.specs.declared.unit.Refusal.{Refusal}
 use Rattle.publish_path.specs.declared.publish.Confirm.{Confirm}

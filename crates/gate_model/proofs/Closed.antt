@@ -48,7 +48,7 @@ use Rattle.gate_model.specs.Due.{is_connect_due}
 use Rattle.gate_model.specs.Folds.{carried_on, peers_left, peers_scoped, ran_out_in, routes_in, scope_in}
 use Rattle.gate_model.specs.Lives.{is_of_channel}
 use Rattle.gate_model.specs.Once.{is_channel_open, is_method_on}
-use Rattle.gate_model.specs.Paths.{closed_path, fault_in, is_outcome, lost_path, name_in, part_in, path_at, text_of, with_path}
+use Rattle.gate_model.specs.Paths.{closed_path, fault_in, is_outcome, name_in, part_in, path_at, text_of, with_path}
 use Rattle.gate_model.specs.Picks.{ArePicks}
 use Rattle.gate_model.specs.Publishing.{attach_events, given_event, losing, owed_unless, transfer_event}
 use Rattle.gate_model.specs.Publishing.{closed_if, closing, ending, failing, heard_events, losing_up}

@@ -22,7 +22,7 @@ use Rattle.performatives_10.specs.declared.condition.Condition.TheVariants.{Reso
 use Rattle.machine_091.specs.declared.unit.Refusal.{Refusal}
 use Rattle.session_path.specs.Path.{PathState}
 use Rattle.close_translate.specs.declared.conditions.Scope.{Scope}
-use Rattle.gate_model.specs.Paths.{closed_path, lost_path, path_at, told_paths}
+use Rattle.gate_model.specs.Paths.{closed_path, path_at, told_paths}
 use Rattle.gate_model.specs.declared.life.SessionState.{SessionState}
 use Rattle.gate_model.specs.declared.outgoing.Outgoing.TheVariants.{ToClient, ToUp}
 use Rattle.gate_model.specs.declared.outgoing.UpUnit.{UpUnit}

@@ -30,7 +30,7 @@ use Rattle.session_path.specs.Events.{PathEvent, drops}
 use Rattle.session_path.specs.Path.{PathState, closes_at as closes_channel}
 use Rattle.gate_model.specs.Folds.{Peers, scope_in}
 use Rattle.gate_model.specs.Lives.{life_at, session_in, with_life}
-use Rattle.gate_model.specs.Paths.{closed_path, fault_in, is_outcome, lost_path, name_in, path_at, text_of}
+use Rattle.gate_model.specs.Paths.{closed_path, fault_in, is_outcome, name_in, path_at, text_of}
 use Rattle.gate_model.specs.Publishing.{attach_events, closed_if, closing, ending, heard_events, meaning_events}
 use Rattle.gate_model.specs.Publishing.{reply_events, session_events, told_event, up_events, want_events, wrote_events}
 use Rattle.gate_model.specs.Session.{is_of_session}

@@ -35,7 +35,7 @@ use Rattle.gate_model.specs.Due.{up_rows}
 use Rattle.gate_model.specs.Errors.{MayState, StatesErrors, ends_session, error_at, error_in, error_meant, error_or, error_scoped, error_wanted}
 use Rattle.gate_model.specs.Folds.{Peers, connection, container, paths_in, peers, ran_out_in, routes_in}
 use Rattle.gate_model.specs.Lives.{begun_life, failed_life, freed_life, is_of_channel, life_at, lives_by, method_life, reason_of, refusal_on, with_life}
-use Rattle.gate_model.specs.Paths.{closed_path, lost_path, path_at}
+use Rattle.gate_model.specs.Paths.{closed_path, path_at}
 use Rattle.gate_model.specs.Picks.{ArePicks}
 use Rattle.gate_model.specs.Repeats.{is_end_on}
 use Rattle.gate_model.specs.Requests.{client_told}

@@ -40,7 +40,6 @@ use Rattle.gate_model.specs.State.{paths_with, paths_wrote, transfer_scope, unat
 use Rattle.gate_model.specs.Upstream.{container_by, meaning_by}
 use Rattle.gate_model.proofs.Basics.{below_or_not}
 use Rattle.gate_model.proofs.Slots.{map_long, none_long, set_long}
-use Rattle.std.specs.Prelude.{is_some}
 
 -- ---- the paths are as many after each step
 

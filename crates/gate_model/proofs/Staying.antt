@@ -35,7 +35,7 @@ use Rattle.gate_model.specs.Folds.{connection, paths_in, peers, ran_out_in, rout
 use Rattle.gate_model.specs.Lives.{begun_life, failed_life, freed_life, is_of_channel, life_at, lives_by, method_life, reason_of, refusal_on, with_life}
 use Rattle.gate_model.specs.Once.{is_channel_open, is_method_on}
 use Rattle.gate_model.specs.Parting.{by_container, is_containers}
-use Rattle.gate_model.specs.Paths.{closed_path, lost_path, path_at}
+use Rattle.gate_model.specs.Paths.{closed_path, path_at}
 use Rattle.gate_model.specs.Picks.{ArePicks}
 use Rattle.gate_model.specs.Publishing.{opens_channel, path_life}
 use Rattle.gate_model.specs.Requests.{client_step, client_told}
