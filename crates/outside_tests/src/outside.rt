@@ -12,6 +12,7 @@ use std::alloc::Global;
 use std::fmt::Debug;
 use std::process::Abort;
 use std::test::Fail;
+use tests_support::Printed;
 use wire_base::{
     ByteText, ItemList, Memory, put_u8, put_u16, put_u32, put_u64, take_u8, take_u16, take_u32,
     take_u64,
@@ -43,16 +44,21 @@ fn only(alloc: Global, number: u64) -> Result<CallList, Memory> {
     Ok(list)
 }
 
+/// Appends two texts of two bytes.
+fn append_two(text: &mut ByteText) -> Result<(), Memory> {
+    text.append(b"AM")?;
+    text.append(b"QP")
+}
+
 /// Texts that grow, and a copy of one.
 fn texts_grow(rt: &(impl Abort + AllocGlobal)) -> Result<(), Fail> {
     let mut text = ByteText::empty(rt.alloc());
     same(rt, text.as_slice(), b"".as_slice());
-    text.append(b"AM")?;
-    text.append(b"QP")?;
-    let before = text.copy(rt.alloc())?;
+    append_two(&mut text)?;
     same(rt, text.as_slice(), b"AMQP".as_slice());
-    texts_are_cut(rt)?;
-    same(rt, before.as_slice(), b"AMQP".as_slice());
+    let before = text.copy(rt.alloc());
+    drop(text);
+    same(rt, before?.as_slice(), b"AMQP".as_slice());
     Ok(())
 }
 
@@ -105,6 +111,7 @@ fn cut_numbers_are_none(rt: &impl Abort, bytes: &[u8]) {
 #[test]
 fn numbers_go_high_byte_first(rt: HostRuntime) -> Result<(), Fail> {
     texts_grow(&rt)?;
+    texts_are_cut(&rt)?;
     lists_hold_items(&rt)?;
     let text = numbers(rt.alloc())?;
     let want = [0xF0, 1, 2, 1, 2, 3, 4, 1, 2, 3, 4, 5, 6, 7, 8];
@@ -128,13 +135,18 @@ fn draws<S: Source>(
 }
 
 /// A source gives `amqp` by at most three bytes at a read, and fails at its second call.
+fn draws_amqp<S: Source>(rt: &impl Abort, source: &mut S) {
+    draws(rt, source, b"\0\0\0", Drawn::Bytes(3), b"amq");
+    draws(rt, source, b"amq", Drawn::Failed, b"amq");
+    draws(rt, source, b"amq", Drawn::Bytes(1), b"pmq");
+    draws(rt, source, b"pmq", Drawn::Ended, b"pmq");
+}
+
+/// Such a source in memory.
 fn source_is_read(rt: &(impl Abort + AllocGlobal)) -> Result<(), Fail> {
-    let fails = only(rt.alloc(), 1)?;
-    let mut source = MemorySource::new(ByteText::copy_of(rt.alloc(), b"amqp")?, fails);
-    draws(rt, &mut source, b"\0\0\0", Drawn::Bytes(3), b"amq");
-    draws(rt, &mut source, b"amq", Drawn::Failed, b"amq");
-    draws(rt, &mut source, b"amq", Drawn::Bytes(1), b"pmq");
-    draws(rt, &mut source, b"pmq", Drawn::Ended, b"pmq");
+    let text = ByteText::copy_of(rt.alloc(), b"amqp")?;
+    let mut source = MemorySource::new(text, only(rt.alloc(), 1)?);
+    draws_amqp(rt, &mut source);
     Ok(())
 }
 
@@ -166,61 +178,117 @@ fn streams_hold_their_bytes(rt: HostRuntime) -> Result<(), Fail> {
     Ok(())
 }
 
-/// What reads at the ends of pair 0 give.
+/// A piece that comes at an end of pair 0 once so many bytes were taken there.
+fn add_piece(
+    alloc: Global,
+    pieces: &mut ItemList<Piece>,
+    end: End,
+    after: u64,
+    bytes: &[u8],
+    ends: bool,
+) -> Result<(), Memory> {
+    let bytes = ByteText::copy_of(alloc, bytes)?;
+    pieces.push(Piece {
+        pair: 0,
+        end,
+        after,
+        bytes,
+        ends,
+    })
+}
+
+/// What comes at the ends of pair 0.
+fn add_pieces(alloc: Global, pieces: &mut ItemList<Piece>) -> Result<(), Memory> {
+    add_piece(alloc, pieces, End::Client, 0, b"abc", false)?;
+    add_piece(alloc, pieces, End::Client, 2, b"de", true)?;
+    add_piece(alloc, pieces, End::Up, 0, b"", true)
+}
+
+/// How much the writes at the ends of pair 0 take.
+fn add_rooms(rooms: &mut ItemList<Room>) -> Result<(), Memory> {
+    for (end, most) in [(End::Up, 0), (End::Client, 1), (End::Up, 1)] {
+        rooms.push(Room { pair: 0, end, most })?;
+    }
+    Ok(())
+}
+
+/// What reads and writes at the ends of pair 0 give.
 fn two_ends(alloc: Global, fails: CallList) -> Result<Script, Memory> {
     let mut script = quiet(alloc, 1);
     script.idles = 1;
     script.step = 40;
     script.fails = fails;
-    let pieces = [
-        (End::Client, 0, b"abc".as_slice(), false),
-        (End::Client, 2, b"de".as_slice(), true),
-        (End::Up, 0, b"".as_slice(), true),
-    ];
-    for (end, after, bytes, ends) in pieces {
-        script.pieces.push(Piece {
-            pair: 0,
-            end,
-            after,
-            bytes: ByteText::copy_of(alloc, bytes)?,
-            ends,
-        })?;
-    }
-    for (end, most) in [(End::Up, 0), (End::Client, 1), (End::Up, 1)] {
-        script.rooms.push(Room { pair: 0, end, most })?;
-    }
+    add_pieces(alloc, &mut script.pieces)?;
+    add_rooms(&mut script.rooms)?;
     Ok(script)
+}
+
+/// A read with its answer.
+fn put_read(out: &mut Printed, pair: u32, end: End, room: u32, answer: Got, bytes: &[u8]) {
+    out.put("read ");
+    out.show(pair);
+    out.put(" ");
+    out.debug(end);
+    out.put(" ");
+    out.show(room);
+    out.put(": ");
+    out.debug(answer);
+    out.put(" ");
+    out.debug(bytes);
+}
+
+/// A write with its answer.
+fn put_write(out: &mut Printed, pair: u32, end: End, bytes: &[u8], answer: Put) {
+    out.put("write ");
+    out.show(pair);
+    out.put(" ");
+    out.debug(end);
+    out.put(" ");
+    out.debug(bytes);
+    out.put(": ");
+    out.debug(answer);
+}
+
+/// Another call, with its pair.
+fn put_of_pair<T: Debug + Copy>(out: &mut Printed, name: &str, pair: u32, rest: &str, answer: T) {
+    out.put(name);
+    out.show(pair);
+    out.put(rest);
+    out.debug(answer);
+}
+
+/// Another call.
+fn put_named<T: Debug + Copy>(out: &mut Printed, name: &str, answer: T) {
+    out.put(name);
+    out.debug(answer);
 }
 
 /// An entry of a log as a line.
 fn line_of(alloc: Global, entry: &LogEntry) -> Result<String, Memory> {
-    let line = match entry {
-        LogEntry::Accept { answer } => format!(in alloc; "accept: {answer:?}"),
-        LogEntry::Connect { pair, answer } => format!(in alloc; "connect {pair}: {answer:?}"),
+    let mut out = Printed::new(alloc);
+    match entry {
+        LogEntry::Accept { answer } => put_named(&mut out, "accept: ", *answer),
+        LogEntry::Connect { pair, answer } => {
+            put_of_pair(&mut out, "connect ", *pair, ": ", *answer);
+        }
         LogEntry::Read {
             pair,
             end,
             room,
             answer,
             bytes,
-        } => {
-            let bytes = bytes.as_slice();
-            format!(in alloc; "read {pair} {end:?} {room}: {answer:?} {bytes:?}")
-        }
+        } => put_read(&mut out, *pair, *end, *room, *answer, bytes.as_slice()),
         LogEntry::Write {
             pair,
             end,
             bytes,
             answer,
-        } => {
-            let bytes = bytes.as_slice();
-            format!(in alloc; "write {pair} {end:?} {bytes:?}: {answer:?}")
-        }
-        LogEntry::Shut { pair, end } => format!(in alloc; "shut {pair} {end:?}"),
-        LogEntry::Idle { answer } => format!(in alloc; "idle: {answer:?}"),
-        LogEntry::Now { ms } => format!(in alloc; "now: {ms}"),
-    };
-    Ok(line?)
+        } => put_write(&mut out, *pair, *end, bytes.as_slice(), *answer),
+        LogEntry::Shut { pair, end } => put_of_pair(&mut out, "shut ", *pair, " ", *end),
+        LogEntry::Idle { answer } => put_named(&mut out, "idle: ", *answer),
+        LogEntry::Now { ms } => put_named(&mut out, "now: ", *ms),
+    }
+    out.end()
 }
 
 /// An entry of a log as a line; `None` where there is no such entry.
@@ -231,15 +299,26 @@ fn line_at(alloc: Global, log: &Log, k: usize) -> Result<Option<String>, Memory>
     }
 }
 
+/// The entry of a log at a place, as a line.
+fn entry_says(
+    rt: &(impl Abort + AllocGlobal),
+    log: &Log,
+    k: usize,
+    want: &str,
+) -> Result<(), Fail> {
+    match line_at(rt.alloc(), log, k)? {
+        Some(line) => assert_eq!(rt; line.as_str(), want, "entry {k}"),
+        None => panic!(rt; "no entry {k}"),
+    }
+    Ok(())
+}
+
 /// The entries of a log, as lines.
 fn log_says(rt: &(impl Abort + AllocGlobal), log: &Log, lines: &[&str]) -> Result<(), Fail> {
     same(rt, log.len(), lines.len());
     let mut k = 0usize;
     for want in lines {
-        match line_at(rt.alloc(), log, k)? {
-            Some(line) => assert_eq!(rt; line.as_str(), *want, "entry {k}"),
-            None => panic!(rt; "no entry {k}"),
-        }
+        entry_says(rt, log, k, want)?;
         k = k.saturating_add(1);
     }
     assert!(rt; line_at(rt.alloc(), log, k)?.is_none());
@@ -312,15 +391,25 @@ fn writes_and_reads<P: Ports>(rt: &impl Abort, ports: &mut P)
     writes(rt, ports, End::Up, Put::Took(1));
 }
 
+/// The whole play.
+fn plays<P: Ports>(rt: &impl Abort, ports: &mut P)
+    requires pairs { P.pairs ports.old ≡ 0 }
+    requires ends { P.ends ports.old ≡ [] }
+{
+    opens(rt, ports);
+    first_reads(rt, ports);
+    writes_and_reads(rt, ports);
+    closes(rt, ports);
+}
+
 #[test]
 fn ports_play_a_script(rt: HostRuntime) -> Result<(), Fail> {
     let script = two_ends(rt.alloc(), only(rt.alloc(), 4)?)?;
     let mut ports = ScriptPorts::new(rt.alloc(), script, 100, 100)?;
-    opens(&rt, &mut ports);
-    first_reads(&rt, &mut ports);
-    writes_and_reads(&rt, &mut ports);
-    closes(&rt, &mut ports);
-    log_says(&rt, ports.log(), SCRIPT_LINES.as_slice())
+    plays(&rt, &mut ports);
+    let said = log_says(&rt, ports.log(), SCRIPT_LINES.as_slice());
+    drop(ports);
+    said
 }
 
 /// The log of the script above.
@@ -362,7 +451,9 @@ fn log_fills(rt: &(impl Abort + AllocGlobal)) -> Result<(), Fail> {
         !log.add(Call::Now { ms: 9 }, b""),
         "no room for a third entry"
     );
-    log_says(rt, &log, &["write 7 Up [97, 98, 99]: NotYet", "now: 9"])
+    let said = log_says(rt, &log, &["write 7 Up [97, 98, 99]: NotYet", "now: 9"]);
+    drop(log);
+    said
 }
 
 /// Ports at which nothing happens.
@@ -378,7 +469,9 @@ fn one_entry(rt: &(impl Abort + AllocGlobal)) -> Result<(), Fail> {
     let script = quiet(rt.alloc(), 0);
     let mut ports = ScriptPorts::new(rt.alloc(), script, 1, 100)?;
     stays_quiet(rt, &mut ports);
-    log_says(rt, ports.log(), &["accept: NotYet"])
+    let said = log_says(rt, ports.log(), &["accept: NotYet"]);
+    drop(ports);
+    said
 }
 
 /// A client that comes, a read and a write at its end, and the clock.
@@ -401,9 +494,11 @@ fn log_ends_where_room_does(rt: HostRuntime) -> Result<(), Fail> {
     let script = two_ends(rt.alloc(), ItemList::empty(rt.alloc()))?;
     let mut ports = ScriptPorts::new(rt.alloc(), script, 100, 3)?;
     meets_client(&rt, &mut ports);
-    log_says(
+    let said = log_says(
         &rt,
         ports.log(),
         &["accept: Pair(0)", "read 0 Client 2: Bytes(2) [97, 98]"],
-    )
+    );
+    drop(ports);
+    said
 }

@@ -13,20 +13,49 @@ pub trait Cases {
     fn answer(&mut self, alloc: Global, line: &str) -> Result<Option<String>, Memory>;
 }
 
+/// A line as it is, behind what is said of it.
+fn said_of(alloc: Global, before: &str, line: &str) -> Result<String, Memory> {
+    let text = format!(in alloc; "{before}{line}\n")?;
+    Ok(text)
+}
+
 /// What is printed for a line. Empty lines and remarks, which begin with `#`, are printed as they
 /// are.
 fn answer_to<C: Cases>(alloc: Global, cases: &mut C, line: &str) -> Result<String, Memory> {
     if line.is_empty() || line.starts_with('#') {
-        let text = format!(in alloc; "{line}\n")?;
-        return Ok(text);
+        return said_of(alloc, "", line);
     }
     match cases.answer(alloc, line)? {
         Some(text) => Ok(text),
-        None => {
-            let text = format!(in alloc; "no case: {line}\n")?;
-            Ok(text)
-        }
+        None => said_of(alloc, "no case: ", line),
     }
+}
+
+/// Prints the answer to a line.
+fn put_answer<C: Cases, W: Write>(
+    alloc: Global,
+    cases: &mut C,
+    line: &str,
+    out: &mut W,
+) -> io::Result<()> {
+    match answer_to(alloc, cases, line) {
+        Ok(text) => out.write_all(text.as_bytes()),
+        Err(_) => Err(io::Error::from(io::ErrorKind::OutOfMemory)),
+    }
+}
+
+/// Reads lines up to the end, and prints the answer to each.
+fn put_answers<R: BufRead + Drop, C: Cases, W: Write>(
+    alloc: Global,
+    reader: R,
+    cases: &mut C,
+    out: &mut W,
+) -> io::Result<()> {
+    for line in reader.lines(alloc) {
+        let line = line?;
+        put_answer(alloc, cases, line.as_str(), out)?;
+    }
+    out.flush()
 }
 
 /// Reads lines up to the end of the input, and prints the answer to each.
@@ -36,12 +65,5 @@ pub fn answer_lines<R: Input + Print + AllocGlobal, C: Cases>(
 ) -> io::Result<()> {
     let reader = BufReader::new(rt.alloc(), rt.reader())?;
     let mut out = BufWriter::new(rt.alloc(), io::writer(rt))?;
-    for line in reader.lines(rt.alloc()) {
-        let line = line?;
-        match answer_to(rt.alloc(), cases, line.as_str()) {
-            Ok(text) => out.write_all(text.as_bytes())?,
-            Err(_) => return Err(io::Error::from(io::ErrorKind::OutOfMemory)),
-        }
-    }
-    out.flush()
+    put_answers(rt.alloc(), reader, cases, &mut out)
 }
