@@ -1,13 +1,17 @@
 -- Contents and elements of some depth, where the depth is no numeral.
 use Rattle.std.proofs.Common.{◌≡◌, ℕ, zero, suc, ◌-◌, Bool, true, false, cond, eqb, leb, ltb, ◌<◌}
-use Rattle.std.proofs.Common.{List, [], ◌∷◌, Err, refl, arith, rules, tests}
+use Rattle.std.proofs.Common.{List, [], ◌∷◌, Ok, Err, refl, sym, ap, arith, rules, tests}
 use Rattle.std.proofs.lemmas.Bool.{leb-true, leb-false, lt-ltb, le-ltb}
 use Rattle.wire_base.specs.Reading.{Reads, made}
 use Rattle.types_10.specs.Tree.{Tree, described, depth}
 use Rattle.types_10.specs.Reading.{Fault, fault_at, flat_in, deep_in, level, contents_in}
 use Rattle.types_10.specs.Reading.{element_in}
 use Rattle.types_10.specs.declared.fault.TypeFault.TheVariants as fault
+use Rattle.types_10.specs.Kinds.{is_bare}
 use Rattle.types_10.specs.declared.kind.Kind.{Kind}
+use Rattle.types_10.specs.declared.kind.Kind.TheVariants as kind
+use Rattle.types_10.specs.declared.kind.Single.TheVariants as single
+use Rattle.wire_base.proofs.Laws.{ok_is}
 
 -- contents by whether their depth is 0
 pub contents_is : (d room : ℕ) (k : Kind) (at : ℕ) (cut : Fault) (end : ℕ) (bytes : List ℕ)
@@ -27,6 +31,33 @@ contents_more zero room k at cut end bytes more = absurd (omega arith)
 contents_more (suc d) room k at cut end bytes more =
     let less : suc d - 1 ≡ d = omega arith in
     rw less refl
+
+-- contents without bytes leave the room and the bytes as they were
+abbrev read_to : Tree → ℕ → List ℕ → Reads (Tree × ℕ) Fault
+read_to t room bytes = Ok ((t, room), bytes)
+
+bare_left : (t : Tree) (room : ℕ) (bytes : List ℕ) (x : Tree) (left : ℕ) (rest : List ℕ) → read_to t room bytes ≡ read_to x left rest → (left ≡ room) × (rest ≡ bytes)
+bare_left t room bytes x left rest e =
+    let p = sym (ok_is {F = Fault} ((t, room), bytes) ((x, left), rest) e) in
+    (ap (λ (y : (Tree × ℕ) × List ℕ). y.0.1) p, ap (λ (y : (Tree × ℕ) × List ℕ). y.1) p)
+
+pub bare_stays : (d room : ℕ) (k : Kind) (at : ℕ) (cut : Fault) (end : ℕ) (bytes : List ℕ) (x : Tree) (left : ℕ) (rest : List ℕ) → is_bare k ≡ true
+    → contents_in d room k at cut end bytes ≡ Ok ((x, left), rest) → (left ≡ room) × (rest ≡ bytes)
+unfolding level
+bare_stays zero room (kind.Single (single.Bare b)) at cut end bytes x left rest bare e = bare_left _ room bytes x left rest e
+bare_stays (suc d) room (kind.Single (single.Bare b)) at cut end bytes x left rest bare e = bare_left _ room bytes x left rest e
+bare_stays zero room kind.EmptyList at cut end bytes x left rest bare e = absurd cc
+bare_stays (suc d) room kind.EmptyList at cut end bytes x left rest bare e = bare_left _ room bytes x left rest e
+bare_stays d room (kind.Single single.Boolean) at cut end bytes x left rest bare e = absurd cc
+bare_stays d room (kind.Single (single.Octet o)) at cut end bytes x left rest bare e = absurd cc
+bare_stays d room (kind.Single (single.Wide w)) at cut end bytes x left rest bare e = absurd cc
+bare_stays d room (kind.Single single.Char) at cut end bytes x left rest bare e = absurd cc
+bare_stays d room (kind.Single (single.Sixteen s)) at cut end bytes x left rest bare e = absurd cc
+bare_stays d room (kind.Single (single.Text t s)) at cut end bytes x left rest bare e = absurd cc
+bare_stays d room (kind.List s) at cut end bytes x left rest bare e = absurd cc
+bare_stays d room (kind.Map s) at cut end bytes x left rest bare e = absurd cc
+bare_stays d room (kind.Array s) at cut end bytes x left rest bare e = absurd cc
+bare_stays d room kind.Described at cut end bytes x left rest bare e = absurd cc
 
 -- elements without descriptors, and behind one that is too deep and one that isn't
 pub element_plain : (d room : ℕ) (k : Kind) (at : ℕ) (cut : Fault) (end : ℕ) (bytes : List ℕ)

@@ -1,7 +1,7 @@
 -- Values that are read past: what is known of them, as loops come to know it.
 use Rattle.std.proofs.Common.{◌≡◌, ◌≢◌, ℕ, zero, suc, ◌+◌, ◌-◌, ◌*◌, ◌/◌, ◌%◌, ◌^◌, ◌<◌, ◌≤◌, max, Bool, true, false, eqb, leb}
 use Rattle.std.proofs.Common.{List, [], ◌∷◌, ◌++◌, length, Result, Ok, Err, refl, sym, ap, ◌∙◌, arith}
-use Rattle.std.proofs.lemmas.Bool.{le-leb, leb-true}
+use Rattle.std.proofs.lemmas.Bool.{le-leb, leb-true, leb-false}
 use Rattle.std.specs.Int.{Width}
 use Rattle.wire_base.specs.declared.stop.Stop.{Stop}
 use Rattle.wire_base.specs.declared.stop.Stop.TheVariants as stop
@@ -13,10 +13,11 @@ use Rattle.types_10.specs.Measures.{capped}
 use Rattle.types_10.specs.Reading.{Fault, IsTold, fault_at, count_in, bytes_in, code_in, row_in, two_in, filled_in, entries_in, Shape}
 use Rattle.types_10.specs.Reading.{constructor_in, contents_in, element_in}
 use Rattle.types_10.specs.Skipping.{with_room, extent, each_extent, pairs_extent, no_extent, joined, outer, front_depth, front}
-use Rattle.types_10.specs.Skipping.{no_front, one_more, behind, outline, end_of}
+use Rattle.types_10.specs.Skipping.{no_front, one_more, behind, outline, end_of, times}
+use Rattle.types_10.specs.Kinds.{is_bare}
 use Rattle.types_10.proofs.Constructors.{behind_descriptors, descriptor_goes_on, ends_at_code, ends_at_descriptor, done_at_code, ends_without_code}
 use Rattle.types_10.proofs.Filled.{inside_of, filled_ends, filled_over, filled_done, entries_counted}
-use Rattle.types_10.proofs.Levels.{element_plain, element_none, element_deep, element_more}
+use Rattle.types_10.proofs.Levels.{bare_stays, element_plain, element_none, element_deep, element_more}
 use Rattle.types_10.proofs.Rows.{behind_row, row_goes_on, row_ends, row_done}
 use Rattle.types_10.specs.declared.fault.TypeFault.TheVariants as fault
 use Rattle.types_10.specs.declared.kind.Kind.{Kind}
@@ -305,6 +306,61 @@ element_found c d inside room k at cut end text e left rest fits i is m =
     let whole = element_within c.0 d room c.1 at cut end text fits ∙ ap (made (with_room (within c.0))) (inside_same c d inside room k at cut end text i is ∙ x.1) in
     let sum : extent (within c.0 x.0) ≡ behind (front c.0) e = within_behind c.0 x.0 ∙ ap (behind (front c.0)) x.2 in
     ap (made (with_room extent)) whole ∙ ap (λ (e : Extent). Ok ((e, left), rest)) sum
+
+-- ---- elements without bytes
+
+element_stays_by : (c : Shape) (d room at : ℕ) (cut : Fault) (end : ℕ) (text : List ℕ) (x : Tree) (left : ℕ) (rest : List ℕ) → is_bare c.1 ≡ true → element_in d room c at cut end text ≡ Ok ((x, left), rest)
+    → (b : Bool) → leb (front_depth c.0) d ≡ b → (left ≡ room) × (rest ≡ text)
+element_stays_by c d room at cut end text x left rest bare e false h =
+    absurd (cc (e, element_beyond c.0 d room c.1 at cut end text (omega (arith, leb-false _ _ h))))
+element_stays_by c d room at cut end text x left rest bare e true h =
+    let inner = contents_in (d - length c.0) room c.1 at cut end text in
+    let f = found_in (within c.0) inner x left rest (sym (element_within c.0 d room c.1 at cut end text (leb-true _ _ h)) ∙ e) in
+    bare_stays (d - length c.0) room c.1 at cut end text f.0 left rest bare f.1
+
+-- such an element leaves the room and the bytes as they were
+pub element_stays : (c : Shape) (d room at : ℕ) (cut : Fault) (end : ℕ) (text : List ℕ) (x : Tree) (left : ℕ) (rest : List ℕ) → is_bare c.1 ≡ true → element_in d room c at cut end text ≡ Ok ((x, left), rest) → (left ≡ room) × (rest ≡ text)
+element_stays c d room at cut end text x left rest bare e =
+    element_stays_by c d room at cut end text x left rest bare e (leb (front_depth c.0) d) refl
+
+-- so many that are alike
+abbrev alike : ℕ → Tree → List Tree
+alike zero x = []
+alike (suc n) x = x ∷ alike n x
+
+row_alike : (read : ℕ → ℕ → List ℕ → Reads (Tree × ℕ) Fault) (n room end : ℕ) (text : List ℕ) (x : Tree) → read room end text ≡ Ok ((x, room), text) → row_in read n room end text ≡ Ok ((alike n x, room), text)
+unfolding row_in
+row_alike read zero room end text x e = refl
+row_alike read (suc n) room end text x e = rw (e, row_alike read n room end text x e) refl
+
+alike_depth : (n : ℕ) (x : Tree) → 0 < n → list_depth (alike n x) ≡ depth x
+alike_depth zero x some = absurd (omega arith)
+alike_depth (suc zero) x some = omega arith
+alike_depth (suc (suc n)) x some = omega (arith, alike_depth (suc n) x (omega arith))
+
+capped_sum : (a b w : ℕ) → capped a ≡ capped b → capped (w + a) ≡ capped (capped w + b)
+capped_sum a b w e = omega (arith, e)
+
+times_more : (n w : ℕ) → suc n * w ≡ w + n * w
+times_more n w = omega arith
+
+alike_weight : (n : ℕ) (x : Tree) → capped (weights (trees_of (alike n x))) ≡ capped (n * capped (weight x))
+alike_weight zero x = omega arith
+alike_weight (suc n) x =
+    ap capped (omega arith) ∙ capped_sum (weights (trees_of (alike n x))) (n * capped (weight x)) (weight x) (alike_weight n x) ∙ ap capped (sym (times_more n (capped (weight x))))
+
+each_alike : (n : ℕ) (x : Tree) → 0 < n → each_extent (alike n x) ≡ times n (extent x)
+each_alike n x some = same_extent _ _ (alike_weight n x) (ap capped (alike_depth n x some))
+
+pub alike_done : (read : ℕ → ℕ → List ℕ → Reads (Tree × ℕ) Fault) (n room end : ℕ) (text : List ℕ) (e : Extent) (left : ℕ) (rest : List ℕ) → 0 < n → made (with_room extent) (read room end text) ≡ Ok ((e, left), rest)
+    → ((x : Tree) → read room end text ≡ Ok ((x, left), rest) → (left ≡ room) × (rest ≡ text)) → made (with_room each_extent) (row_in read n room end text) ≡ Ok ((times n e, left), rest)
+alike_done read n room end text e left rest some m stays =
+    let x = found_in extent (read room end text) e left rest m in
+    let same = stays x.0 x.1 in
+    let one : read room end text ≡ Ok ((x.0, room), text) = x.1 ∙ ap (λ (n : ℕ). read_so ((x.0, n), rest)) same.0 ∙ ap (λ (s : List ℕ). read_so ((x.0, room), s)) same.1 in
+    let sum : each_extent (alike n x.0) ≡ times n e = each_alike n x.0 some ∙ ap (times n) x.2 in
+    ap (made (with_room each_extent)) (row_alike read n room end text x.0 one) ∙ ap (λ (a : Extent). read_so ((a, room), text)) sum
+    ∙ ap (λ (n' : ℕ). read_so ((times n e, n'), text)) (sym same.0) ∙ ap (λ (s : List ℕ). read_so ((times n e, left), s)) (sym same.1)
 
 -- ---- values that hold others
 

@@ -1,6 +1,6 @@
 -- What is known of values that are read past (AMQP 1.0 1.6): what copies of them take, and how deep
 -- they are; and of the constructor of an array. Numbers are no higher than a usize goes.
-use Rattle.std.specs.Prelude.{ℕ, ◌+◌, max, List, [], ◌∷◌, length, Result, Ok, Err}
+use Rattle.std.specs.Prelude.{ℕ, ◌+◌, ◌*◌, max, List, [], ◌∷◌, length, Result, Ok, Err}
 use Rattle.types_10.specs.Tree.{Tree, depth, list_depth, pairs_depth_of, trees_of, pairs_of}
 use Rattle.types_10.specs.Loads.{weight, weights, pairs_weight, copies}
 use Rattle.types_10.specs.Measures.{capped}
@@ -36,6 +36,10 @@ no_extent = record { weight = 0; depth = 0 }
 
 abbrev pub joined : Extent → Extent → Extent
 joined a b = record { weight = capped (a.weight + b.weight); depth = max a.depth b.depth }
+
+-- of so many values that are alike, one at least
+abbrev pub times : ℕ → Extent → Extent
+times n a = record { weight = capped (n * a.weight); depth = a.depth }
 
 -- of a value that holds these
 abbrev pub outer : Extent → Extent

@@ -5,11 +5,11 @@
 //! each value that is read past. The sums saturate, so that none of them overflows.
 
 ghost use Rattle.std.specs.Prelude.{◌≡◌, ℕ, ◌+◌, ◌-◌, ◌≤◌, List, ◌++◌, length, take, drop, IfOk, IfErr};
-ghost use Rattle.std.specs.Prelude.{IsOkAnd};
+ghost use Rattle.std.specs.Prelude.{IsOkAnd, true};
 ghost use Rattle.wire_base.specs.Reading.{Reads, made};
 ghost use Rattle.types_10.specs.Tree.{Scalar, Tree, scalar};
 ghost use Rattle.types_10.specs.View.{value_tree};
-ghost use Rattle.types_10.specs.Kinds.{size_width};
+ghost use Rattle.types_10.specs.Kinds.{size_width, is_bare};
 ghost use Rattle.types_10.specs.Loads.{weight, element_load};
 ghost use Rattle.types_10.specs.Measures.{capped};
 ghost use Rattle.types_10.specs.Grammar.{IsValue};
@@ -17,7 +17,7 @@ ghost use Rattle.types_10.specs.Faults.{IsFaultAt};
 ghost use Rattle.types_10.specs.Reading.{Fault, Tells, Shape, single_in, flat_in, deep_in, filled_in};
 ghost use Rattle.types_10.specs.Reading.{row_in, items_in, entries_in, elements_in, level, value_in};
 ghost use Rattle.types_10.specs.Reading.{contents_in, shape_in, element_in, value_at};
-ghost use Rattle.types_10.specs.Skipping.{with_room, extent, each_extent, pairs_extent, joined};
+ghost use Rattle.types_10.specs.Skipping.{with_room, extent, each_extent, pairs_extent, joined, times};
 ghost use Rattle.types_10.specs.Skipping.{outer, no_extent, behind, no_front, one_more, outline};
 ghost use Rattle.types_10.specs.Skipping.{end_of};
 
@@ -75,6 +75,16 @@ impl Extent {
         Extent {
             weight: self.weight.saturating_add(other.weight),
             depth: self.depth.max(other.depth),
+        }
+    }
+
+    /// That of so many values that are alike, one at least.
+    fn times(self, count: u32) -> Extent
+        ensures { result ≡ times count self }
+    {
+        Extent {
+            weight: (count as usize).saturating_mul(self.weight),
+            depth: self.depth,
         }
     }
 
@@ -421,6 +431,9 @@ fn elements_past(
         → Tells (λ x. ((x.0.0, x.0.1), x.1.now)) result (made (with_room each_extent)
         (row_in (λ room. element_in depth room c at bounds.cut) count room bounds.end bytes.now)) }
 {
+    if shape.kind.is_bare() {
+        return alike_past(depth, room, count, shape, at, bounds, bytes);
+    }
     let mut all = Extent::none();
     let mut spare = room;
     let mut rest = bytes;
@@ -433,6 +446,30 @@ fn elements_past(
         done += 1;
     }
     Ok(((all, spare), rest))
+}
+
+/// So many elements that have no bytes. They are alike, so the first tells of the others, and a
+/// count that an array of a few bytes gives costs no time.
+#[cycle(past)]
+fn alike_past(
+    depth: u8,
+    room: u32,
+    count: u32,
+    shape: Outline,
+    at: usize,
+    bounds: Bounds,
+    bytes: &[u8],
+) -> Result<((Extent, u32), &[u8]), Stop<Fault>>
+    requires { is_bare shape.kind ≡ true }
+    ensures { (c : Shape) → shape ≡ outline c
+        → Tells (λ x. ((x.0.0, x.0.1), x.1.now)) result (made (with_room each_extent)
+        (row_in (λ room. element_in depth room c at bounds.cut) count room bounds.end bytes.now)) }
+{
+    if count == 0 {
+        return Ok(((Extent::none(), room), bytes));
+    }
+    let ((first, room), rest) = element_past(depth, room, shape, at, bounds, bytes)?;
+    Ok(((first.times(count), room), rest))
 }
 
 /// An element of this constructor, whose last code stands at `at`.

@@ -1,13 +1,13 @@
-use Rattle.std.proofs.Common.{◌≡◌, ℕ, ◌-◌, ◌≤◌, List, ap, subst, sym, ◌∙◌, arith}
+use Rattle.std.proofs.Common.{◌≡◌, ℕ, ◌-◌, ◌≤◌, true, List, ap, subst, sym, ◌∙◌, arith}
 use Rattle.std.proofs.lemmas.Result.{err_from_is_err_and}
 use Rattle.wire_base.specs.Reading.{Reads, made}
 use Rattle.types_10.specs.Tree.{Tree}
-use Rattle.types_10.specs.Kinds.{size_width}
+use Rattle.types_10.specs.Kinds.{size_width, is_bare}
 use Rattle.types_10.specs.Loads.{element_load}
 use Rattle.types_10.specs.Reading.{Fault, IsTold, row_in, value_in, shape_in, element_in}
 use Rattle.types_10.specs.Reading.{items_in, entries_in, elements_in, level}
 use Rattle.types_10.specs.Skipping.{with_room, extent, each_extent, pairs_extent, front_depth, front}
-use Rattle.types_10.specs.Skipping.{behind, outline}
+use Rattle.types_10.specs.Skipping.{behind, outline, no_extent}
 use Rattle.types_10.specs.declared.skipping.Front.{Front}
 use Rattle.types_10.specs.declared.skipping.Outline.{Outline}
 use Rattle.types_10.proofs.Filled.{items_counted, elements_counted}
@@ -16,7 +16,7 @@ use Rattle.types_10.proofs.Pasts.{entries_paired, filled_past_ends, filled_past_
 use Rattle.types_10.proofs.Pasts.{filled_past_done, front_goes_on, front_ends_at_code}
 use Rattle.types_10.proofs.Pasts.{front_ends_at_descriptor, front_done, front_without_code}
 use Rattle.types_10.proofs.Pasts.{element_beyond, element_told, element_found, depth_inside}
-use Rattle.types_10.proofs.Pasts.{both_done}
+use Rattle.types_10.proofs.Pasts.{both_done, so_far_begins, alike_done, element_stays}
 use Rattle.types_10.proofs.skipping.+past.Goals as goal
 
 -- ---- so many values
@@ -57,6 +57,27 @@ pub elements_past-returns : goal.elements_past-returns
 elements_past-returns t c = λ k is.
     let read = λ (room : ℕ). element_in c.args.depth room k c.args.at c.args.bounds.cut in
     so_far_done read (row_in read c.args.count c.args.room c.args.bounds.end c.args.bytes.now) c.loop-done.all c.args.count c.loop-done.done c.loop-done.spare c.args.bounds.end c.loop-done.rest.now (omega arith) (c.loop-done.invariant.1 k is)
+
+-- ---- so many elements without bytes
+
+pub alike_past-returns-then-count-eq0 : goal.alike_past-returns-then-count-eq0
+alike_past-returns-then-count-eq0 t c = λ k is.
+    let read = λ (room : ℕ). element_in c.args.depth room k c.args.at c.args.bounds.cut in
+    let total = row_in read c.args.count c.args.room c.args.bounds.end c.args.bytes.now in
+    rw c.none.ensures (so_far_done read total no_extent c.args.count 0 c.args.room c.args.bounds.end c.args.bytes.now (omega arith) (so_far_begins read c.args.count c.args.room c.args.bounds.end c.args.bytes.now))
+
+pub alike_past-returns-in_err-first : goal.alike_past-returns-in_err-first
+alike_past-returns-in_err-first t c = λ k is.
+    let read = λ (room : ℕ). element_in c.args.depth room k c.args.at c.args.bounds.cut in
+    let total = row_in read c.args.count c.args.room c.args.bounds.end c.args.bytes.now in
+    let p = err_from_is_err_and c.from_residual.result c.from_residual.ensures.1 in
+    rw (p.1, p.2) (so_far_ends c.in_err-first.field-0.0 read total no_extent c.args.count 0 c.args.room c.args.bounds.end c.args.bytes.now (omega arith) (so_far_begins read c.args.count c.args.room c.args.bounds.end c.args.bytes.now) (c.in_err-first.ensures k is))
+
+pub alike_past-returns : goal.alike_past-returns
+alike_past-returns t c = λ k is.
+    let read = λ (room : ℕ). element_in c.args.depth room k c.args.at c.args.bounds.cut in
+    let bare : is_bare k.1 ≡ true = sym (ap (λ (o : Outline). is_bare o.kind) is) ∙ c.requires in
+    rw c.times.ensures (alike_done read c.args.count c.args.room c.args.bounds.end c.args.bytes.now c.in_ok-first.first c.in_ok-first.room c.in_ok-first.rest.now (omega arith) (c.in_ok-first.ensures k is) (λ x. element_stays k c.args.depth c.args.room c.args.at c.args.bounds.cut c.args.bounds.end c.args.bytes.now x c.in_ok-first.room c.in_ok-first.rest.now bare))
 
 -- ---- an element
 

@@ -20,7 +20,10 @@ abbrev pub decreases-values_past : goal.decreases-values_past
 decreases-values_past l = 8 * l.depth + 2
 
 abbrev pub decreases-elements_past : goal.decreases-elements_past
-decreases-elements_past l = 8 * l.depth + 2
+decreases-elements_past l = 8 * l.depth + 3
+
+abbrev pub decreases-alike_past : goal.decreases-alike_past
+decreases-alike_past l = 8 * l.depth + 2
 
 abbrev pub decreases-list_past : goal.decreases-list_past
 decreases-list_past l = 8 * l.depth + 3
@@ -29,10 +32,10 @@ abbrev pub decreases-map_past : goal.decreases-map_past
 decreases-map_past l = 8 * l.depth + 3
 
 abbrev pub decreases-array_past : goal.decreases-array_past
-decreases-array_past l = 8 * l.depth + 3
+decreases-array_past l = 8 * l.depth + 4
 
 abbrev pub decreases-deep_past : goal.decreases-deep_past
-decreases-deep_past l = 8 * l.depth + 4
+decreases-deep_past l = 8 * l.depth + 5
 
 abbrev pub invariant-values_past-loop-done : goal.invariant-values_past-loop-done
 invariant-values_past-loop-done l =
