@@ -1,12 +1,13 @@
 //! The bytes of the units of a session's links.
 
-ghost use Rattle.std.specs.Prelude.{◌≡◌, ◌≤◌, ◌++◌, [], length, IfOk, IsTrue};
+ghost use Rattle.std.specs.Prelude.{◌≡◌, ◌≤◌, ◌++◌, [], length, IfOk, IsTrue, OnOk};
 ghost use Rattle.gate_model.specs.Paths.{transfer_perf};
 ghost use Rattle.std.specs.Prelude.{false, true};
 ghost use Rattle.gate_model.specs.Spelling.{attach_perf, empty_source, empty_target, frame_on};
 ghost use Rattle.gate_model.specs.Spelling.{link_flow_perf, source_of, spell_on, target_of};
 ghost use Rattle.gate_model.specs.declared.channel.SessionUnit.TheVariants as unit;
 ghost use Rattle.performatives_10.specs.Writing.{perf_text, perf_tree};
+ghost use Rattle.publish_path.specs.Payloads.{joined};
 ghost use Rattle.session_path.specs.Links.{link_name};
 ghost use Rattle.std.specs.Str.{is_utf8};
 ghost use Rattle.types_10.specs.Writing.{HasSpelling};
@@ -16,6 +17,7 @@ use gate_model::{AttachOut, LinkFlow, TransferOut};
 use itoa::Buffer;
 use machine_10::{FRAME_MAX, WINDOW};
 use performatives_10::{Attach, Flow, Perf, Source10, Target10, Transfer, put_perf};
+use publish_path::Pieces;
 use std::alloc::Global;
 use wire_base::{ByteText, Memory};
 
@@ -219,17 +221,25 @@ fn transfer_of(alloc: Global, transfer: TransferOut) -> Result<Perf, Memory>
     }))
 }
 
+/// Adds bytes that are lent in pieces.
+fn put_pieces(out: &mut ByteText, pieces: Pieces<'_>) -> Result<(), Memory>
+    ensures { OnOk result (out.new ≡ out.old ++ joined pieces.entry) }
+{
+    out.append(pieces.front)?;
+    out.append(pieces.back)
+}
+
 /// The bytes of a frame whose body is a text and then a payload. The payload is copied once, since
-/// it goes behind a frame of the text, whose size then counts both. `Memory` also if the frame is
-/// longer than the gateway's are, as none of the gateway's is.
+/// its pieces go behind a frame of the text, whose size then counts both. `Memory` also if the
+/// frame is longer than the gateway's are, as none of the gateway's is.
 #[tactic(auto, using(crate::proofs::Joined::joined))]
 fn frame_behind(
     alloc: Global,
     channel: u16,
     body: ByteText,
-    payload: &[u8],
+    payload: Pieces<'_>,
 ) -> Result<ByteText, Memory>
-    ensures text { IfOk result (λ text. text ≡ frame_on channel (body ++ payload.now)) }
+    ensures text { IfOk result (λ text. text ≡ frame_on channel (body ++ joined payload.entry)) }
     ensures small { IfOk result (λ text. length text ≤ FRAME_MAX) }
 {
     let Some(room) = BODY_MAX.checked_sub(body.as_slice().len()) else {
@@ -248,16 +258,21 @@ fn frame_behind(
             body,
         },
     )?;
-    text.append(payload)?;
+    put_pieces(&mut text, payload)?;
     text.set_u32(0, size as u32);
     Ok(text)
 }
 
 /// The bytes of a frame with a performative and what follows it.
-fn frame_of(alloc: Global, channel: u16, perf: &Perf, payload: &[u8]) -> Result<ByteText, Memory>
+fn frame_of(
+    alloc: Global,
+    channel: u16,
+    perf: &Perf,
+    payload: Pieces<'_>,
+) -> Result<ByteText, Memory>
     requires { HasSpelling (perf_tree perf.now) }
     ensures text { IfOk result (λ text.
-        text ≡ frame_on channel (perf_text perf.now ++ payload.now)) }
+        text ≡ frame_on channel (perf_text perf.now ++ joined payload.entry)) }
     ensures small { IfOk result (λ text. length text ≤ FRAME_MAX) }
 {
     let mut body = ByteText::empty(alloc);
@@ -271,16 +286,22 @@ pub fn attach_frame(
     alloc: Global,
     channel: u16,
     attach: AttachOut,
-    address: &[u8],
+    address: Pieces<'_>,
 ) -> Result<ByteText, Memory>
-    ensures text { IfOk result (λ text. text ≡ spell_on channel (unit.Attach attach) address.now) }
+    ensures text { IfOk result (λ text.
+        text ≡ spell_on channel (unit.Attach attach) (joined address.entry)) }
     ensures small { IfOk result (λ text. length text ≤ FRAME_MAX) }
 {
-    if address.len() > ADDRESS_MAX || !is_utf8(address) {
+    if address.len() > ADDRESS_MAX {
         return Err(Memory);
     }
-    let perf = attach_of(alloc, attach, address)?;
-    let frame = frame_of(alloc, channel, &perf, &[]);
+    let mut text = ByteText::empty(alloc);
+    put_pieces(&mut text, address)?;
+    if !is_utf8(text.as_slice()) {
+        return Err(Memory);
+    }
+    let perf = attach_of(alloc, attach, text.as_slice())?;
+    let frame = frame_of(alloc, channel, &perf, Pieces::none());
     drop(perf);
     frame
 }
@@ -291,7 +312,7 @@ pub fn flow_frame(alloc: Global, channel: u16, flow: LinkFlow) -> Result<ByteTex
     ensures small { IfOk result (λ text. length text ≤ FRAME_MAX) }
 {
     let perf = flow_of(flow);
-    let frame = frame_of(alloc, channel, &perf, &[]);
+    let frame = frame_of(alloc, channel, &perf, Pieces::none());
     drop(perf);
     frame
 }
@@ -301,9 +322,10 @@ pub fn transfer_frame(
     alloc: Global,
     channel: u16,
     transfer: TransferOut,
-    part: &[u8],
+    part: Pieces<'_>,
 ) -> Result<ByteText, Memory>
-    ensures text { IfOk result (λ text. text ≡ spell_on channel (unit.Transfer transfer) part.now) }
+    ensures text { IfOk result (λ text.
+        text ≡ spell_on channel (unit.Transfer transfer) (joined part.entry)) }
     ensures small { IfOk result (λ text. length text ≤ FRAME_MAX) }
 {
     let perf = transfer_of(alloc, transfer)?;

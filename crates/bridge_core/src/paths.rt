@@ -29,7 +29,7 @@ use consume_path::{Content, Part, Settle, TransferFault};
 pub use due::{cancel_fault, declare_fault};
 use gate_model::{ChannelUnit, HELD_BYTES, HELD_PUBLISHES, SessionUnit};
 use open_items::Frames;
-use publish_path::{Confirm, Outcome};
+use publish_path::{Confirm, Outcome, Payload};
 use session_path::{AttachHeard, LinkFlow, PathOk, SessionPath, Settling};
 use std::marker::Model;
 use wire_base::{ByteText, Memory};
@@ -234,7 +234,7 @@ impl PathSlot {
 
     /// A content was taken up, for this address, with the payload of its transfer and the frames of
     /// its return. Without memory for it all is as it was.
-    fn publish(&mut self, address: ByteText, payload: ByteText, back: Frames) -> Result<(), Memory>
+    fn publish(&mut self, address: ByteText, payload: Payload, back: Frames) -> Result<(), Memory>
         ensures ok { OnOk result (self.new ≡ option_map (published address payload back) self.old) }
         ensures err { OnErr result (self.new ≡ self.old) }
     {
@@ -627,7 +627,7 @@ impl Paths {
         &mut self,
         channel: u16,
         address: ByteText,
-        payload: ByteText,
+        payload: Payload,
         back: Frames,
     ) -> Result<(), Memory>
         ensures ok { OnOk result (self.new ≡ with_path channel

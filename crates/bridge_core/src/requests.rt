@@ -27,6 +27,7 @@ use machine_091::{Conn91, Refusal, Want91};
 use methods_091::{Method91, ids};
 use open_items::Frames;
 use property_map::{Message091, Told, put_image};
+use publish_path::Payload;
 use std::alloc::Global;
 use wire_base::{ByteText, Memory};
 
@@ -37,7 +38,7 @@ pub enum Met {
     Want(Want91, Option<Told>),
     /// A publish on this channel, to this address, with the payload of its transfer, and the frames
     /// of its return.
-    Publish(u16, ByteText, ByteText, Frames),
+    Publish(u16, ByteText, Payload, Frames),
 }
 
 /// What becomes of a publish: the reply code that refuses it and what is told of that, or its
@@ -45,7 +46,7 @@ pub enum Met {
 #[derive(Drop)]
 enum Published {
     Refused(u16, Option<Told>),
-    Sent(ByteText, ByteText, Frames),
+    Sent(ByteText, Payload, Frames),
 }
 
 /// An exchange is known: the default one, whose name is empty, and those that have an address.
@@ -196,7 +197,10 @@ fn publish(
     let address = address.copy(alloc)?;
     let (message, back) = back_of(alloc, channel, limit, message, mandatory)?;
     match put_image(alloc, message) {
-        Ok(payload) => Ok(Published::Sent(address, payload, back)),
+        Ok(image) => {
+            let payload = Payload::new(image.front, image.body)?;
+            Ok(Published::Sent(address, payload, back))
+        }
         Err(fault) => match fault.told() {
             Some(told) => Ok(Published::Refused(PRECONDITION_FAILED, Some(told))),
             None => Err(Memory),

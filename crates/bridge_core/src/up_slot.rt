@@ -7,6 +7,7 @@ ghost use Rattle.gate_model.specs.declared.outgoing.UpUnit.TheVariants as up;
 ghost use Rattle.gate_model.specs.declared.channel.SessionUnit.TheVariants as on_session;
 ghost use Rattle.bridge_core.specs.Logins.{IsLoginOf};
 ghost use Rattle.bridge_core.specs.Offers.{UpSlotState, is_on_session};
+ghost use Rattle.publish_path.specs.Payloads.{joined};
 
 use crate::frames::ROOM;
 use crate::link_frames::{attach_frame, flow_frame, transfer_frame};
@@ -15,6 +16,7 @@ use consume_path::NextSettle;
 use gate_model::{SessionUnit, Setup, UpUnit};
 use machine_10::{Conn10, FRAME_MAX};
 use performatives_10::{Condition, Ending, Settle, put_end, put_settle, put_settled};
+use publish_path::Pieces;
 use session_path::Settling;
 use std::alloc::Global;
 use std::marker::Model;
@@ -189,11 +191,11 @@ impl UpSlot {
         alloc: Global,
         channel: u16,
         unit: SessionUnit,
-        carried: &[u8],
+        carried: Pieces<'_>,
     ) -> Result<(), Memory>
         ensures ok { OnOk result (self.new ≡ record {
           chosen = Some (up.OnSession channel unit);
-          bytes = spell_on channel unit carried.now;
+          bytes = spell_on channel unit (joined carried.entry);
         }) }
         ensures err { OnErr result (self.new ≡ self.old) }
         ensures takes { OnErr result (takes_memory_on unit ≡ true) }

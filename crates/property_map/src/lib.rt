@@ -28,6 +28,6 @@ pub use laws::{map_laws, received_lawfully};
 pub use message::Message091;
 pub use received::{Received, read_image};
 pub use rows::decimal_of;
-pub use spelling::put_image;
+pub use spelling::{ImageText, put_image};
 pub use spelling_laws::images_are_spelled;
 pub use told::{FaultName, Told, fault_name, part_name};

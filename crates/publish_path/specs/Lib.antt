@@ -1,3 +1,4 @@
+pub mod Payloads
 pub mod Links
 pub mod Publishes
 pub mod Offers

@@ -7,10 +7,10 @@ ghost use Rattle.publish_path.specs.Publishes.{is_told, told, is_on, link_lost, 
 ghost use Rattle.publish_path.specs.Publishes.{reported, changed, is_accepted, is_released};
 ghost use Rattle.publish_path.specs.Publishes.{owes_return, returned};
 
+use crate::payload::Payload;
 use crate::publish::{Answer, Confirm, Outcome, Place, Publish};
 use open_items::{Frames, LostKind};
 use std::alloc::Global;
-use wire_base::ByteText;
 
 /// What happens to the publishes of a life.
 #[derive(Clone, Copy, Debug)]
@@ -60,11 +60,11 @@ fn frame_one(alloc: Global, p: &mut Publish, first: bool, id: u32, count: usize)
     if !is_publish_sending(p) {
         return;
     }
-    if count < p.payload.as_slice().len().saturating_sub(p.gone) {
+    if count < p.payload.len().saturating_sub(p.gone) {
         p.gone += count;
         p.place = Place::Begun;
     } else {
-        p.payload = ByteText::empty(alloc);
+        p.payload = Payload::empty(alloc);
         p.gone = 0;
         p.place = Place::Sent;
     }
@@ -144,7 +144,7 @@ fn lose_one(alloc: Global, p: &mut Publish, link: Option<u32>, not_found: bool)
             p.back = Frames::empty(alloc);
         }
     }
-    p.payload = ByteText::empty(alloc);
+    p.payload = Payload::empty(alloc);
     p.gone = 0;
     if is_publish_sending(p) {
         p.place = Place::Lost;

@@ -6,6 +6,7 @@
 mod changes;
 mod counts;
 mod laws;
+mod payload;
 mod publish;
 mod publishes;
 mod searches;
@@ -13,6 +14,7 @@ mod send_links;
 mod visits;
 
 pub use laws::{confirms_lawfully, lines_lawfully, payloads_lawfully, returns_lawfully};
+pub use payload::{Payload, Pieces};
 pub use publish::{Answer, Confirm, NextFrame, NextReturn, Outcome, Place, Publish};
 pub use publishes::Publishes;
 pub use send_links::SendLinks;

@@ -1,7 +1,7 @@
 //! What is kept of one publish, and what is offered of it.
 
+use crate::payload::Payload;
 use open_items::{Frames, LostKind};
-use wire_base::ByteText;
 
 /// Where the frames of its transfer are.
 #[derive(Clone, Copy, Debug, PartialEq, Eq)]
@@ -48,7 +48,7 @@ pub struct Publish {
     /// The delivery-id of its transfer, once that began.
     pub id: Option<u32>,
     /// The payload of its transfer; empty once nothing of it is left to be sent.
-    pub payload: ByteText,
+    pub payload: Payload,
     /// So many bytes of the payload were sent.
     pub gone: usize,
     /// So many bytes the whole payload has.

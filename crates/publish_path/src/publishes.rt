@@ -15,9 +15,11 @@ ghost use Rattle.publish_path.specs.Offers.{frame_of, next_frame_of, links_after
 ghost use Rattle.publish_path.specs.Offers.{frame_sent, next_confirm_of, held_count};
 ghost use Rattle.publish_path.specs.Offers.{held_bytes, waits_on, is_pending, next_return_of};
 ghost use Rattle.publish_path.specs.Offers.{return_of, return_frame_of, lines_of};
+ghost use Rattle.publish_path.specs.Payloads.{joined};
 
 use crate::changes::{Change, compact};
 use crate::counts::Counts;
+use crate::payload::{Payload, Pieces};
 use crate::publish::{Answer, Confirm, NextFrame, NextReturn, Outcome, Place, Publish};
 use crate::searches::{
     any_waiting, confirm_from, count_pending, first_begun, first_returning, first_taking,
@@ -74,10 +76,10 @@ impl Model for Publishes {
 /// There is room for so many items at least.
 const LEAST_ROOM: usize = 16;
 
-fn new_one(number: u64, link: u32, confirm: Option<u64>, payload: ByteText, back: Frames) -> Publish
+fn new_one(number: u64, link: u32, confirm: Option<u64>, payload: Payload, back: Frames) -> Publish
     ensures { result ≡ new_publish number link confirm payload back }
 {
-    let size = payload.as_slice().len();
+    let size = payload.len();
     Publish {
         number,
         link,
@@ -142,13 +144,13 @@ fn end_at(alone: bool, place: usize, end: usize) -> usize
 }
 
 /// The bytes from a place on; `None` if there are none.
-#[tactic(auto, using(crate::proofs::Steps::take_rest, crate::proofs::Steps::drop_past))]
-fn part_from(bytes: &[u8], from: usize) -> Option<&[u8]>
-    ensures none { IsNone result ↔ drop from bytes.now ≡ [] }
-    ensures part { IfSome result (λ part. part.now ≡ drop from bytes.now) }
+#[tactic(auto, using(crate::proofs::Steps::drop_past))]
+fn part_from(payload: &Payload, from: usize) -> Option<Pieces<'_>>
+    ensures none { IsNone result ↔ drop from payload.now ≡ [] }
+    ensures part { IfSome result (λ part. joined part ≡ drop from payload.now) }
 {
-    if from < bytes.len() {
-        Some(&bytes[from..])
+    if from < payload.len() {
+        Some(payload.from(from))
     } else {
         None
     }
@@ -197,7 +199,7 @@ impl Publishes {
         &mut self,
         link: u32,
         confirm: bool,
-        payload: ByteText,
+        payload: Payload,
         back: Frames,
     ) -> Result<u64, Memory>
         requires numbers { self.old.numbers < 2 ^ 62 }
@@ -211,7 +213,7 @@ impl Publishes {
         self.make_room();
         let (held, bytes) = self.held();
         let number = self.numbers + 1;
-        let size = payload.as_slice().len() as u64;
+        let size = payload.len() as u64;
         let confirms = if confirm {
             self.confirms + 1
         } else {
@@ -261,12 +263,12 @@ impl Publishes {
 
     /// The bytes of a publish's payload that are still to be sent; `None` if there are none.
     #[tactic(auto, using(crate::proofs::Steps::taking_seen))]
-    pub fn rest(&self, publish: u64) -> Option<&[u8]>
+    pub fn rest(&self, publish: u64) -> Option<Pieces<'_>>
         ensures none { IsNone result ↔ rest_of publish self.now.list ≡ [] }
-        ensures rest { IfSome result (λ rest. rest.now ≡ rest_of publish self.now.list) }
+        ensures rest { IfSome result (λ rest. joined rest ≡ rest_of publish self.now.list) }
     {
         match first_taking(self.items.as_slice(), self.front, publish) {
-            Some(p) => part_from(p.payload.as_slice(), p.gone),
+            Some(p) => part_from(&p.payload, p.gone),
             None => None,
         }
     }

@@ -1,11 +1,11 @@
 -- What is written of a message is read back.
-use Rattle.std.proofs.Common.{◌≡◌, ◌↔◌, inl, ℕ, zero, suc, ◌+◌, ◌-◌, ◌^◌, ◌<◌, Bool, true, false}
-use Rattle.std.proofs.Common.{cond, ltb, eqb, ℤ, List, [], ◌∷◌, ◌++◌, length, take, drop, get_or}
-use Rattle.std.proofs.Common.{Option, Some, None, option_map, Result, Ok, refl, sym, ap, subst, ◌∙◌}
-use Rattle.std.proofs.Common.{append_assoc, append-nil, arith}
+use Rattle.std.proofs.Common.{◌≡◌, ◌↔◌, inl, ℕ, zero, suc, ◌+◌, ◌-◌, ◌^◌, ◌<◌, ◌≤◌, Bool, true}
+use Rattle.std.proofs.Common.{false, cond, ltb, eqb, ℤ, List, [], ◌∷◌, ◌++◌, length, take, drop}
+use Rattle.std.proofs.Common.{get_or, Option, Some, None, option_map, Result, Ok, refl, sym, ap}
+use Rattle.std.proofs.Common.{subst, ◌∙◌, append_assoc, append-nil, arith}
 use Rattle.std.proofs.Math.Seq.{get_or-append_seam}
 use Rattle.std.proofs.lemmas.Bool.{ltb-true, eqb-true}
-use Rattle.std.proofs.lemmas.List.{take_at, drop_at, length-append}
+use Rattle.std.proofs.lemmas.List.{take_at, drop_at, length-append, take-append-le}
 use Rattle.wire_base.specs.Reading.{◌>>=◌}
 use Rattle.wire_base.specs.Spelling.{StandsAt}
 use Rattle.types_10.specs.Tree.{Tree, scalar, list, mapping, array, described, ulong, Trees}
@@ -31,8 +31,9 @@ use Rattle.sections_10.specs.Reading.{message_in}
 use Rattle.sections_10.specs.Grammar.{IsSectionAt, IsMaybeAt, IsBodyAt, IsMessage}
 use Rattle.sections_10.specs.Writing.{in_front, trim, unless_false, unless_zero, header_written}
 use Rattle.sections_10.specs.Writing.{header_value, props_value, section_text, maybe_text}
-use Rattle.sections_10.specs.Writing.{binary_head, body_text, message_text, IfThere, IsData}
-use Rattle.sections_10.specs.Writing.{EachWritten, CanBeWritten, IsId, HasIds, IsMapWith, HasTypes}
+use Rattle.sections_10.specs.Writing.{binary_head, body_text, body_bytes, message_text, IfThere}
+use Rattle.sections_10.specs.Writing.{IsData, EachWritten, CanBeWritten, IsId, HasIds, IsMapWith}
+use Rattle.sections_10.specs.Writing.{HasTypes}
 use Rattle.sections_10.specs.declared.sections.Keys.{Keys}
 use Rattle.sections_10.specs.declared.sections.Keys.TheVariants as keys
 use Rattle.sections_10.specs.declared.message.MsgHeader.{MsgHeader}
@@ -76,6 +77,32 @@ short_data s false e h = omega (arith, h, data_length s false e)
 -- data has a spelling where its length leaves room for code and length
 pub data_spells : (s : List ℕ) → (length s < 4294967291) ↔ HasSpelling (a_binary s)
 data_spells s = ((λ h. (omega arith, tt, data_short s (ltb (length s) 256) refl h, omega arith)), λ h. short_data s (ltb (length s) 256) refl h.2)
+
+-- ---- up to the bytes of the body
+
+-- a body has no more bytes than are written of it
+body_within : (b : Body10) → length (body_bytes b) ≤ length (body_text b)
+body_within (body.Data s) = omega (arith, data_length s (ltb (length s) 256) refl)
+body_within (body.Text s) = omega arith
+body_within (body.Binary s) = omega arith
+body_within body.Other = omega arith
+
+bytes_within : (m : Message10) → length (body_bytes m.body) ≤ length (message_text m)
+bytes_within m =
+    let a = maybe_text 112 (option_map header_value m.header) in
+    let b = maybe_text 114 (option_map value_tree m.annotations) in
+    let c = maybe_text 115 (option_map props_value m.properties) in
+    let d = maybe_text 116 (option_map value_tree m.application) in
+    let e = body_text m.body in
+    omega (arith, length-append a (b ++ (c ++ (d ++ e))), length-append b (c ++ (d ++ e)), length-append c (d ++ e), length-append d e, body_within m.body)
+
+-- with the sections up to the bytes of the body, what stood there before is there
+pub front_stands : (m : Message10) (old new : List ℕ) → new ++ body_bytes m.body ≡ old ++ message_text m → take (length old) new ≡ old
+front_stands m old new e =
+    let size : length new + length (body_bytes m.body) ≡ length old + length (message_text m) =
+    sym (length-append new (body_bytes m.body)) ∙ ap length e ∙ length-append old (message_text m) in
+    let shorter : length old ≤ length new = omega (arith, size, bytes_within m) in
+    sym (take-append-le (length old) new (body_bytes m.body) shorter) ∙ ap (take (length old)) e ∙ take_at old (message_text m) (length old) refl
 
 -- ---- trimmed lists
 

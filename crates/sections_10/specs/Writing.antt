@@ -79,6 +79,13 @@ body_text (body.Text s) = []
 body_text (body.Binary s) = []
 body_text body.Other = []
 
+-- the bytes of data; of another body none
+abbrev pub body_bytes : Body10 → List ℕ
+body_bytes (body.Data s) = s
+body_bytes (body.Text s) = []
+body_bytes (body.Binary s) = []
+body_bytes body.Other = []
+
 abbrev pub message_text : Message10 → List ℕ
 message_text m =
     maybe_text 112 (option_map header_value m.header)

@@ -14,4 +14,4 @@ mod writing;
 pub use laws::message_laws;
 pub use message::{Body10, Message10, MsgHeader, MsgProps};
 pub use reading::{SectionFault, read_message};
-pub use writing::{can_be_written, put_message};
+pub use writing::{can_be_written, put_before_body, put_message};

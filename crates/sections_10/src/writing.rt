@@ -1,19 +1,19 @@
 //! Writing messages.
 //!
-//! Where a function of this module but `put_message` answers `Memory`, what stood in `out` before
-//! still stands at its front.
+//! Where a function of this module but `put_before_body` and `put_message` answers `Memory`, what
+//! stood in `out` before still stands at its front.
 
 ghost use Rattle.std.specs.Prelude.{◌≡◌, ◌↔◌, ◌++◌, true, List, [], ◌∷◌, length, take, option_map};
 ghost use Rattle.std.specs.Prelude.{IfOk, OnOk, OnErr};
 ghost use Rattle.types_10.specs.Tree.{Tree};
 ghost use Rattle.types_10.specs.View.{value_tree};
 ghost use Rattle.types_10.specs.Writing.{value_text, HasSpelling};
-ghost use Rattle.sections_10.specs.Fields.{maybe, a_boolean, a_uint, a_binary};
+ghost use Rattle.sections_10.specs.Fields.{maybe, a_boolean, a_uint};
 ghost use Rattle.sections_10.specs.View.{props_fields};
 ghost use Rattle.sections_10.specs.Writing.{fields_list, unless_false, unless_zero, header_written};
 ghost use Rattle.sections_10.specs.Writing.{header_value, props_value, section_text, maybe_text};
-ghost use Rattle.sections_10.specs.Writing.{binary_head, body_text, message_text, IfThere, IsData};
-ghost use Rattle.sections_10.specs.Writing.{CanBeWritten, all_added, no_fields};
+ghost use Rattle.sections_10.specs.Writing.{binary_head, body_text, body_bytes, message_text};
+ghost use Rattle.sections_10.specs.Writing.{IfThere, IsData, CanBeWritten, all_added, no_fields};
 
 use crate::collecting::Fields;
 use crate::message::{Body10, Message10, MsgHeader, MsgProps};
@@ -187,39 +187,66 @@ fn put_binary_head(out: &mut ByteText, size: usize) -> Result<(), Memory>
     }
 }
 
-/// A data section.
-#[tactic(auto, using(crate::proofs::Written::binary_is))]
-fn put_data(out: &mut ByteText, bytes: &[u8]) -> Result<(), Memory>
-    ensures ok { OnOk result (out.new ≡ out.old ++ section_text 117 (a_binary bytes.now)) }
+/// A data section up to its bytes, of which there are `size`.
+fn put_data_head(out: &mut ByteText, size: usize) -> Result<(), Memory>
+    ensures ok { OnOk result (out.new ≡ out.old ++ 0 ∷ 83 ∷ 117 ∷ binary_head size) }
     ensures err { OnErr result (take (length out.old) out.new ≡ out.old) }
 {
     put_descriptor(out, DATA)?;
-    put_binary_head(out, bytes.len())?;
-    out.append(bytes)
+    put_binary_head(out, size)
 }
 
-/// A body of data; of another one nothing.
-fn put_body(out: &mut ByteText, body: &Body10) -> Result<(), Memory>
-    ensures ok { OnOk result (out.new ≡ out.old ++ body_text body.now) }
+/// A body of data up to its bytes; of another one nothing.
+#[tactic(auto, using(crate::proofs::Written::binary_is))]
+fn put_body_head(out: &mut ByteText, body: &Body10) -> Result<(), Memory>
+    ensures ok { OnOk result (out.new ++ body_bytes body.now ≡ out.old ++ body_text body.now) }
     ensures err { OnErr result (take (length out.old) out.new ≡ out.old) }
 {
     match body {
-        Body10::Data(data) => put_data(out, data.as_slice()),
+        Body10::Data(data) => put_data_head(out, data.as_slice().len()),
         Body10::Text(_) | Body10::Binary(_) | Body10::Other => Ok(()),
     }
 }
 
-/// All sections, in their order.
+/// The bytes of a body of data; of another one nothing.
+fn put_body_bytes(out: &mut ByteText, body: &Body10) -> Result<(), Memory>
+    ensures ok { OnOk result (out.new ≡ out.old ++ body_bytes body.now) }
+    ensures err { OnErr result (out.new ≡ out.old) }
+{
+    match body {
+        Body10::Data(data) => out.append(data.as_slice()),
+        Body10::Text(_) | Body10::Binary(_) | Body10::Other => Ok(()),
+    }
+}
+
+/// All sections, in their order, up to the bytes of the body.
 fn put_sections(alloc: Global, out: &mut ByteText, message: &Message10) -> Result<(), Memory>
     requires { CanBeWritten message.now }
-    ensures ok { OnOk result (out.new ≡ out.old ++ message_text message.now) }
+    ensures ok { OnOk result
+        (out.new ++ body_bytes message.now.body ≡ out.old ++ message_text message.now) }
     ensures err { OnErr result (take (length out.old) out.new ≡ out.old) }
 {
     put_header(alloc, out, &message.header)?;
     put_maybe(out, MESSAGE_ANNOTATIONS, &message.annotations)?;
     put_props(alloc, out, &message.properties)?;
     put_maybe(out, APPLICATION_PROPERTIES, &message.application)?;
-    put_body(out, &message.body)
+    put_body_head(out, &message.body)
+}
+
+/// What was written; where memory ran out, `out` has its first `start` bytes again.
+fn all_or_nothing(
+    out: &mut ByteText,
+    start: usize,
+    written: Result<(), Memory>,
+) -> Result<(), Memory>
+    ensures same { result ≡ written }
+    ensures ok { OnOk written (out.new ≡ out.old) }
+    ensures err { OnErr written (out.new ≡ take start out.old) }
+{
+    if written.is_err() {
+        out.truncate(start);
+    }
+    written
 }
 
 // ---- which messages can be written
@@ -286,6 +313,27 @@ pub fn can_be_written(alloc: Global, message: &Message10) -> Result<bool, Memory
     )
 }
 
+/// Adds the sections of a message whose body is data (AMQP 1.0 3.2.6), up to the bytes of the body,
+/// or leaves `out` as it was. The bytes of the message are these and then its body, which needn't
+/// be copied.
+///
+/// As with `put_message` are what is written of each section, which messages can be written, and
+/// what is for the caller to see to.
+///
+/// # Errors
+///
+/// `Memory` where the allocator has no room for the bytes, or for a copy of the fields.
+pub fn put_before_body(alloc: Global, out: &mut ByteText, message: &Message10) -> Result<(), Memory>
+    requires { CanBeWritten message.now }
+    ensures ok { OnOk result
+        (out.new ++ body_bytes message.now.body ≡ out.old ++ message_text message.now) }
+    ensures err { OnErr result (out.new ≡ out.old) }
+{
+    let start = out.as_slice().len();
+    let written = put_sections(alloc, out, message);
+    all_or_nothing(out, start, written)
+}
+
 /// Adds the sections of a message (AMQP 1.0 3.2) in their order, or leaves `out` as it was. The
 /// body is one data section.
 ///
@@ -301,15 +349,14 @@ pub fn can_be_written(alloc: Global, message: &Message10) -> Result<bool, Memory
 /// # Errors
 ///
 /// `Memory` where the allocator has no room for the bytes, or for a copy of the fields.
+#[tactic(auto, using(crate::proofs::Written::front_stands))]
 pub fn put_message(alloc: Global, out: &mut ByteText, message: &Message10) -> Result<(), Memory>
     requires { CanBeWritten message.now }
     ensures ok { OnOk result (out.new ≡ out.old ++ message_text message.now) }
     ensures err { OnErr result (out.new ≡ out.old) }
 {
     let start = out.as_slice().len();
-    let written = put_sections(alloc, out, message);
-    if written.is_err() {
-        out.truncate(start);
-    }
-    written
+    put_before_body(alloc, out, message)?;
+    let written = put_body_bytes(out, &message.body);
+    all_or_nothing(out, start, written)
 }

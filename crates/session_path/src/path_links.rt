@@ -35,7 +35,7 @@ use crate::path::{AttachDue, AttachFault, AttachHeard, FlowDue, PathLink, PathOk
 use consume_path::{Deliveries, TransferFault};
 use link_table::Handles;
 use open_items::Frames;
-use publish_path::{NextFrame, Publishes, SendLinks};
+use publish_path::{NextFrame, Payload, Publishes, SendLinks};
 use std::alloc::Global;
 use std::collections::VecDeque;
 use std::marker::Model;
@@ -116,7 +116,7 @@ impl PathLinks {
         publishes: &mut Publishes,
         address: ByteText,
         confirm: bool,
-        payload: ByteText,
+        payload: Payload,
         back: Frames,
     ) -> Result<(), Memory>
         requires numbers { publishes.old.numbers < 2 ^ 62 }
@@ -143,7 +143,7 @@ impl PathLinks {
         publishes: &mut Publishes,
         address: ByteText,
         confirm: bool,
-        payload: ByteText,
+        payload: Payload,
         back: Frames,
     ) -> Result<(), Memory>
         requires address { link_to self.old.sending address ≡ None }

@@ -5,6 +5,7 @@ ghost use Rattle.std.specs.Prelude.{IsSome, IsNone, IfSome, OnOk, OnErr, IfOk, o
 ghost use Rattle.std.specs.Prelude.{nat_lt};
 ghost use Rattle.consume_path.specs.Offers.{is_drained};
 ghost use Rattle.publish_path.specs.Offers.{next_frame_of, rest_of};
+ghost use Rattle.publish_path.specs.Payloads.{joined};
 ghost use Rattle.publish_path.specs.Publishes.{is_open};
 ghost use Rattle.session_path.specs.Links.{handle_at, attach_fault, fault_unasked, named};
 ghost use Rattle.session_path.specs.Path.{PathState, opened, began, closed, lost, end_lost, owed};
@@ -33,7 +34,7 @@ use crate::path::{
 use crate::path_links::{LinkFlow, PathLinks};
 use consume_path::Deliveries;
 use open_items::Frames;
-use publish_path::{Confirm, NextFrame, NextReturn, Outcome, Publish, Publishes};
+use publish_path::{Confirm, NextFrame, NextReturn, Outcome, Payload, Pieces, Publish, Publishes};
 use std::alloc::Global;
 use std::collections::VecDeque;
 use std::marker::Model;
@@ -284,14 +285,14 @@ impl SessionPath {
     pub fn published(
         &mut self,
         address: ByteText,
-        payload: ByteText,
+        payload: Payload,
         back: Frames,
     ) -> Result<(), Memory>
         ensures ok { OnOk result (self.new ≡ published address payload back self.old) }
         ensures err { OnErr result (self.new ≡ self.old) }
     {
         let (count, bytes) = self.publishes.held();
-        let size = payload.as_slice().len() as u64;
+        let size = payload.len() as u64;
         if self.taken >= MOST_PUBLISHES || count == u32::MAX || size > u64::MAX - bytes {
             return Err(Memory);
         }
@@ -704,9 +705,10 @@ impl SessionPath {
     }
 
     /// The bytes of a publish's payload that are still to be sent; `None` if there are none.
-    pub fn rest(&self, publish: u64) -> Option<&[u8]>
+    pub fn rest(&self, publish: u64) -> Option<Pieces<'_>>
         ensures none { IsNone result ↔ rest_of publish self.now.publishes.list ≡ [] }
-        ensures rest { IfSome result (λ rest. rest.now ≡ rest_of publish self.now.publishes.list) }
+        ensures rest { IfSome result (λ rest. joined rest
+            ≡ rest_of publish self.now.publishes.list) }
     {
         self.publishes.rest(publish)
     }

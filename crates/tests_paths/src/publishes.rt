@@ -4,7 +4,7 @@ ghost use Rattle.std.specs.Prelude.{◌≡◌, ◌<◌, IfOk, OnErr};
 
 use crate::words::{Words, has_word, silent, told};
 use open_items::{Frames, LostItem};
-use publish_path::{Confirm, NextFrame, NextReturn, Outcome, Publishes, SendLinks};
+use publish_path::{Confirm, NextFrame, NextReturn, Outcome, Payload, Publishes, SendLinks};
 use std::alloc::Global;
 use tests_support::{bytes_of, put_text};
 use wire_base::{ByteText, Memory};
@@ -73,12 +73,21 @@ fn links_text(
     silent(alloc)
 }
 
+/// The payload with these bytes: half of them in front, and the others behind.
+fn payload_of(alloc: Global, bytes: &[u8]) -> Result<Payload, Memory> {
+    let (front, body) = bytes.split_at(bytes.len() / 2);
+    Payload::new(
+        ByteText::copy_of(alloc, front)?,
+        ByteText::copy_of(alloc, body)?,
+    )
+}
+
 /// A publish is taken up, unless too much is held.
 fn take_up(
     publishes: &mut Publishes,
     link: u32,
     confirm: bool,
-    bytes: ByteText,
+    payload: Payload,
     back: Frames,
 ) -> Result<u64, Memory>
     requires { publishes.old.numbers < 100 }
@@ -86,10 +95,10 @@ fn take_up(
     ensures err { OnErr result (publishes.new.numbers ≡ publishes.old.numbers) }
 {
     let (count, sum) = publishes.held();
-    if count >= 100 || sum >= 1_000 || bytes.as_slice().len() >= 1_000 {
+    if count >= 100 || sum >= 1_000 || payload.len() >= 1_000 {
         return Err(Memory);
     }
-    publishes.add(link, confirm, bytes, back)
+    publishes.add(link, confirm, payload, back)
 }
 
 fn push(alloc: Global, back: &mut Frames, frame: &[u8]) -> Result<(), Memory> {
@@ -224,7 +233,8 @@ impl Sends {
         }
         let back = frames_back(alloc, words.verb == "mandatory")?;
         let confirm = words.verb != "plain";
-        self.taken = take_up(&mut self.publishes, words.first, confirm, bytes, back)?;
+        let payload = payload_of(alloc, bytes.as_slice())?;
+        self.taken = take_up(&mut self.publishes, words.first, confirm, payload, back)?;
         told(alloc, self.taken)
     }
 

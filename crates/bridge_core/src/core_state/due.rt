@@ -26,6 +26,7 @@ ghost use Rattle.bridge_core.specs.Behind.{content_units, getting_units, opening
 ghost use Rattle.bridge_core.specs.Behind.{ended_units, flowing_units, last_units};
 ghost use Rattle.bridge_core.specs.Behind.{linked_units, parting_units, session_units};
 ghost use Rattle.bridge_core.specs.Behind.{settling_units};
+ghost use Rattle.publish_path.specs.Payloads.{joined};
 
 use super::Core;
 use crate::channel_rows::{
@@ -37,6 +38,7 @@ use crate::channel_rows::{
 use gate_model::{BEAT_PER_SECOND, Reply, SessionUnit, UpUnit};
 use machine_091::Phase91;
 use methods_091::Method91;
+use publish_path::Pieces;
 use session_path::DeliverDue;
 use std::alloc::Global;
 use wire_base::Memory;
@@ -579,8 +581,8 @@ impl Core {
 
     /// What a unit of the container's session carries of the client's: the address of an attach,
     /// the part of a payload of a transfer.
-    pub fn carried(&self, channel: u16, unit: SessionUnit) -> &[u8]
-        ensures { result.now ≡ carries_of (path_at self.now.paths channel) unit }
+    pub fn carried(&self, channel: u16, unit: SessionUnit) -> Pieces<'_>
+        ensures { joined result ≡ carries_of (path_at self.now.paths channel) unit }
     {
         self.paths.carried(channel, unit)
     }

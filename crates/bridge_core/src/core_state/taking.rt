@@ -34,6 +34,7 @@ use machine_091::{Refusal, Unit91, Want91, connection_laws};
 use methods_091::Method91;
 use open_items::Frames;
 use property_map::Told;
+use publish_path::Payload;
 use session_path::{PathOk, SessionPath};
 use std::alloc::Global;
 use wire_base::{ByteText, Memory};
@@ -404,7 +405,7 @@ impl Core {
         closing: bool,
         channel: u16,
         address: ByteText,
-        payload: ByteText,
+        payload: Payload,
         back: Frames,
     ) -> Result<(), Memory>
         ensures ok { OnOk result (self.new ≡ record self.old {

@@ -28,6 +28,7 @@ ghost use Rattle.session_path.specs.declared.path.AttachFault.TheVariants.{NotAs
 ghost use Rattle.gate_model.specs.Due.{carries_of, carries_told};
 ghost use Rattle.gate_model.specs.Paths.{path_at};
 ghost use Rattle.gate_model.specs.Paths.{transfer_of};
+ghost use Rattle.publish_path.specs.Payloads.{joined};
 
 use super::Paths;
 use crate::link_frames::is_utf8;
@@ -37,7 +38,7 @@ use consume_path::{Content, NextSettle, Part, TransferFault};
 use gate_model::{ChannelUnit, SessionUnit, TransferOut};
 use methods_091::Method91;
 use performatives_10::Condition;
-use publish_path::{Confirm, NextReturn};
+use publish_path::{Confirm, NextReturn, Pieces};
 use session_path::{
     AttachDue, AttachFault, ContentDue, DeliverDue, FlowDue, PathOk, Settling, Stage,
 };
@@ -370,27 +371,23 @@ impl Paths {
     }
 
     /// What a unit of a session's links carries of the client's.
-    pub fn carried(&self, channel: u16, unit: SessionUnit) -> &[u8]
-        ensures { result.now ≡ carries_of (path_at self.now channel) unit }
+    pub fn carried(&self, channel: u16, unit: SessionUnit) -> Pieces<'_>
+        ensures { joined result ≡ carries_of (path_at self.now channel) unit }
     {
         let Some(path) = self.at(channel) else {
-            return &[];
+            return Pieces::none();
         };
         match unit {
-            SessionUnit::Attach(attach) => path.address(AttachDue {
+            SessionUnit::Attach(attach) => Pieces::one(path.address(AttachDue {
                 link: attach.link,
                 handle: attach.handle,
                 receives: attach.receives,
-            }),
+            })),
             SessionUnit::Transfer(transfer) => match path.rest(transfer.frame.publish) {
-                None => &[],
-                Some(rest) => {
-                    let count = (transfer.bytes as usize).min(rest.len());
-                    let (part, _) = rest.split_at(count);
-                    part
-                }
+                None => Pieces::none(),
+                Some(rest) => rest.first(transfer.bytes as usize),
             },
-            _ => &[],
+            _ => Pieces::none(),
         }
     }
 

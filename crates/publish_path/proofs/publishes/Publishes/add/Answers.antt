@@ -1,4 +1,4 @@
-use Rattle.std.proofs.Common.{◌≡◌, ◌∙◌, ◌+◌, ◌++◌, ◌∷◌, [], length, refl, sym, ap, cond, Some}
+use Rattle.std.proofs.Common.{◌≡◌, ◌∙◌, ◌+◌, ◌++◌, ◌∷◌, [], refl, sym, ap, cond, Some}
 use Rattle.publish_path.specs.declared.publish.Publish.{Publish}
 use Rattle.publish_path.specs.declared.counts.Counts.{Counts}
 use Rattle.publish_path.specs.Publishes.{PublishState, new_publish, next_number}
@@ -28,8 +28,8 @@ invariant_of-self-2 c =
       kept_push c.self.invariant.0 c.args.link (c.self.inside.numbers + 1) c.args.confirm c.args.payload c.args.back
           (now ∙ ap (λ k. items ++ new_publish (c.self.inside.numbers + 1) c.args.link k c.args.payload c.args.back ∷ []) named)
           refl refl confirms
-          (ap (λ m. record { held = m + 1; bytes = c.held-held.result.1 + length c.as_slice.result.now; owed = counts.owed; returns = counts.returns; lines = counts.lines }) held
-          ∙ ap (λ m. record { held = counts.held + 1; bytes = m + length c.as_slice.result.now; owed = counts.owed; returns = counts.returns; lines = counts.lines }) bytes
-          ∙ ap (λ m. record { held = counts.held + 1; bytes = counts.bytes + m; owed = counts.owed; returns = counts.returns; lines = counts.lines }) (ap length c.as_slice.ensures)),
+          (ap (λ m. record { held = m + 1; bytes = c.held-held.result.1 + c.len-size.result; owed = counts.owed; returns = counts.returns; lines = counts.lines }) held
+          ∙ ap (λ m. record { held = counts.held + 1; bytes = m + c.len-size.result; owed = counts.owed; returns = counts.returns; lines = counts.lines }) bytes
+          ∙ ap (λ m. record { held = counts.held + 1; bytes = counts.bytes + m; owed = counts.owed; returns = counts.returns; lines = counts.lines }) c.len-size.ensures),
       λ w. ids_push c.self.inside.next_id (c.self.inside.numbers + 1) c.args.link c.if-confirm-2.confirm c.args.payload c.args.back now (c.self.invariant.1 w),
     )
