@@ -9,7 +9,7 @@ ports, and prints its status, its report and its capture. A library that is put 
 each call it makes a copy of the process, in which that call fails, and another one in which the next call fails too. So every
 allocation of the gateway in a scenario fails once. The scenarios are
 
-- the captures of crates/tests_replay/data: what their clients and containers sent, and how much their writes took, but not their times;
+- the captures of tools/captures: what their clients and containers sent, and how much their writes took, but not their times;
 - those of crates/tests_gate/stdin that play a run;
 - the replay of each capture, and the listings of it and of what came of each end.
 
@@ -56,6 +56,7 @@ import time
 from pathlib import Path
 
 CRATES = Path(__file__).resolve().parent.parent / "crates"
+CAPTURES = Path(__file__).resolve().parent / "captures"
 CLIENT, UP = 0, 1
 ALL = 4_294_967_295
 
@@ -389,7 +390,7 @@ def of_cases(cases):
 def scenarios(words):
     """All scenarios, by their names, each text once, and the shortest first."""
     named = dict(of_cases((CRATES / "tests_gate" / "stdin").read_text()))
-    for path in sorted((CRATES / "tests_replay" / "data").glob("*.agc")):
+    for path in sorted(CAPTURES.glob("*.agc")):
         may_be_meant = [f"{what} of {path.stem}" for what in ("replay", "show capture", "show 091", "show 10")]
         if any(word in name for word in words or [""] for name in may_be_meant):
             capture = path.read_bytes()

@@ -3,7 +3,7 @@
 
     python3 tools/try_out_of_memory_served.py [--gateway FILE] [--from NUMBER] NAME..
 
-The gateway is crates/amqp_gate/out/amqp_gate, as `rt run` leaves it there. A NAME is that of a capture of crates/tests_replay/data with
+The gateway is crates/amqp_gate/out/amqp_gate, as `rt run` leaves it there. A NAME is that of a capture of tools/captures with
 one pair, in which no connect failed. What its client and its container sent is sent by two clients, one after the other, and by the
 container of each, as far as they got as many bytes as the capture says. The gateway is run anew for each allocation, as
 `tools/try_out_of_memory.py` has it fail, until a run doesn't come to it; the first is NUMBER, or 1.
@@ -28,7 +28,7 @@ import tempfile
 import time
 from pathlib import Path
 
-from try_out_of_memory import BYES, CLIENT, CLOSE, CRATES, LIMIT_EXCEEDED, NO_MEMORY, UP
+from try_out_of_memory import BYES, CAPTURES, CLIENT, CLOSE, CRATES, LIMIT_EXCEEDED, NO_MEMORY, UP
 from try_out_of_memory import Program, Wrong, is_close, must, of_capture, performative, units_of
 
 PAIRS = 2
@@ -171,7 +171,7 @@ def main():
     with tempfile.TemporaryDirectory() as made, socket.create_server(("127.0.0.1", 0)) as containers:
         library = Program(options.gateway, Path(made)).library
         for name in options.names:
-            scenario = of_capture((CRATES / "tests_replay" / "data" / f"{name}.agc").read_bytes())
+            scenario = of_capture((CAPTURES / f"{name}.agc").read_bytes())
             given = (options.gateway, library, containers, pieces_of(scenario), scenario.words)
             ample, counts, number = Served(*given, 0, 0), collections.Counter(), options.first
             if ample.status != 0 or not all(got[UP] for got in ample.got):
