@@ -198,7 +198,7 @@ fn publish(
     let (message, back) = back_of(alloc, channel, limit, message, mandatory)?;
     match put_image(alloc, message) {
         Ok(image) => {
-            let payload = Payload::new(image.front, image.body)?;
+            let payload = Payload::new(image.front, image.body);
             Ok(Published::Sent(address, payload, back))
         }
         Err(fault) => match fault.told() {

@@ -1,11 +1,11 @@
 //! The payload of a transfer, in two parts, and what is lent of it.
 
-ghost use Rattle.std.specs.Prelude.{◌≡◌, ◌==◌, ◌++◌, [], take, drop, length, IfOk};
+ghost use Rattle.std.specs.Prelude.{◌≡◌, ◌==◌, ◌++◌, [], take, drop, length};
 ghost use Rattle.publish_path.specs.Payloads.{joined};
 
 use std::alloc::Global;
 use std::marker::Model;
-use wire_base::{ByteText, Memory};
+use wire_base::ByteText;
 
 /// The payload of a transfer in two parts, one behind the other: the sections before the bytes of
 /// the body, and these. Contracts see the list of its bytes. No call takes memory.
@@ -16,13 +16,11 @@ pub struct Payload {
 }
 
 impl Model for Payload {
-    ghost use Rattle.std.specs.Prelude.{ℕ, ◌+◌, ◌<◌, ◌^◌, ◌++◌, List, length};
+    ghost use Rattle.std.specs.Prelude.{ℕ, ◌++◌, List};
 
     ghost Value = { List ℕ };
 
     ghost view = { λ a. a.front ++ a.body };
-
-    ghost invariant = { λ a. length a.front + length a.body < 2 ^ 64 };
 }
 
 /// Bytes in two pieces that are lent, one behind the other.
@@ -63,16 +61,11 @@ impl Payload {
         }
     }
 
-    /// These bytes, which are moved and not copied. `Memory` where both together have 2^64 bytes
-    /// or more.
-    pub fn new(front: ByteText, body: ByteText) -> Result<Payload, Memory>
-        ensures { IfOk result (λ payload. payload ≡ front ++ body) }
+    /// These bytes, which are moved and not copied.
+    pub fn new(front: ByteText, body: ByteText) -> Payload
+        ensures { result ≡ front ++ body }
     {
-        let len = front.as_slice().len();
-        if body.as_slice().len() > usize::MAX - len {
-            return Err(Memory);
-        }
-        Ok(Payload { front, body })
+        Payload { front, body }
     }
 
     /// How many bytes there are.

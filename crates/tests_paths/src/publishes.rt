@@ -76,10 +76,10 @@ fn links_text(
 /// The payload with these bytes: half of them in front, and the others behind.
 fn payload_of(alloc: Global, bytes: &[u8]) -> Result<Payload, Memory> {
     let (front, body) = bytes.split_at(bytes.len() / 2);
-    Payload::new(
+    Ok(Payload::new(
         ByteText::copy_of(alloc, front)?,
         ByteText::copy_of(alloc, body)?,
-    )
+    ))
 }
 
 /// A publish is taken up, unless too much is held.
