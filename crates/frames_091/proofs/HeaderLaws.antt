@@ -1,9 +1,10 @@
 -- The laws of the protocol header and of its scan.
-use Rattle.std.proofs.Common.{◌≡◌, ◌≢◌, ◌↔◌, ℕ, ◌+◌, ◌<◌, nat_eq, Bool, true, false, zero, suc}
+use Rattle.std.proofs.Common.{◌≡◌, ◌≢◌, ◌↔◌, ℕ, ◌+◌, ◌<◌, ◌≤◌, nat_eq, ltb, Bool, true, false, zero, suc}
 use Rattle.std.proofs.Common.{cond, List, [], ◌∷◌, ◌++◌, length, get_or, take, drop, refl, sym, ◌∙◌}
 use Rattle.std.proofs.Common.{ap, subst, arith}
-use Rattle.std.proofs.lemmas.Bool.{eqb-true, eqb-false, eq-eqb, ne_eqb, cond_both}
-use Rattle.std.proofs.lemmas.List.{take_all, take-append-drop, length-append, length-drop}
+use Rattle.std.proofs.lemmas.Bool.{eqb-true, eqb-false, eq-eqb, ltb-true, ltb-false, ne_eqb, cond_both}
+use Rattle.std.proofs.lemmas.List.{append_assoc, take_all, take-append-drop, length-append, length-drop}
+use Rattle.std.proofs.lemmas.List.{length-take-le}
 use Rattle.std.proofs.lemmas.List.Sums.{common_prefix_len-le}
 use Rattle.wire_base.specs.Scans.{Scans, AreApart, IfBad}
 use Rattle.wire_base.specs.declared.scan.At.{At}
@@ -157,3 +158,22 @@ scans_by bytes answer is =
 pub faults_by : (bytes : List ℕ) (answer : Scan (Unit {0}) (At NotHeader)) → answer ≡ header_scan bytes → IfBad answer (IsHeaderFault bytes)
 faults_by bytes answer is =
     let Told : Scan (Unit {0}) (At NotHeader) → Type 0 = λ s. IfBad s (IsHeaderFault bytes) in subst Told (sym is) (faults bytes)
+
+-- eight bytes tell whether they are the header, whatever follows
+eight_tell : (text : List ℕ) → 8 ≤ length text → header_scan text ≢ More
+unfolding header_scan
+eight_tell text h =
+    let bound = common_prefix_len-le nat_eq text header_bytes in
+    by_cases (agreed_with header_bytes text) text (λ s. s ≢ More) (λ e q. cc) (λ e f. absurd (omega (arith, bound.1))) (λ e f q. cc)
+
+pub first_tell : (kept bytes : List ℕ) (n : ℕ) → n ≤ length bytes → (n < 8 → n ≡ length bytes)
+    → header_scan (kept ++ take n bytes) ≡ header_scan (kept ++ bytes)
+first_tell kept bytes n le all = by (ltb n 8) refl
+  where
+    by : (x : Bool) → ltb n 8 ≡ x → header_scan (kept ++ take n bytes) ≡ header_scan (kept ++ bytes)
+    by true e = ap (λ (t : List ℕ). header_scan (kept ++ t)) (take_all n bytes (omega (arith, all (ltb-true _ _ e))))
+    by false e =
+        let parts : (kept ++ take n bytes) ++ drop n bytes ≡ kept ++ bytes =
+        append_assoc kept (take n bytes) (drop n bytes) ∙ ap (λ (t : List ℕ). kept ++ t) (take-append-drop n bytes) in
+        let long : 8 ≤ length (kept ++ take n bytes) = omega (arith, ltb-false _ _ e, length-append kept (take n bytes), length-take-le n bytes le) in
+        sym (ap header_scan (sym parts) ∙ stays (kept ++ take n bytes) (drop n bytes) (eight_tell _ long))

@@ -5,10 +5,12 @@ mod frame;
 mod header;
 mod laws;
 mod scanning;
+mod unread;
 mod writing;
 
 pub use frame::{Frame91, FrameFault, Kind91};
 pub use header::{NotHeader, scan_header};
 pub use laws::frame_laws;
 pub use scanning::scan_frame;
+pub use unread::Unread91;
 pub use writing::put_frame;

@@ -13,7 +13,7 @@ use wire_base::{At, ByteText, Memory, Scan};
 /// The byte that ends each frame (AMQP 0-9-1 4.2.3).
 pub(crate) const FRAME_END: u8 = 0xCE;
 
-fn kind_at(byte: u8) -> Option<Kind91>
+pub(crate) fn kind_at(byte: u8) -> Option<Kind91>
     ensures { result ≡ kind_of byte }
 {
     match byte {
@@ -25,7 +25,7 @@ fn kind_at(byte: u8) -> Option<Kind91>
     }
 }
 
-fn byte_or_zero(bytes: &[u8], at: usize) -> u8
+pub(crate) fn byte_or_zero(bytes: &[u8], at: usize) -> u8
     ensures { result ≡ slice_index bytes.now at }
 {
     bytes.get(at).copied().unwrap_or(0)
@@ -60,7 +60,7 @@ fn frame_of(alloc: Global, kind: Kind91, size: usize, bytes: &[u8]) -> Result<Fr
     })
 }
 
-fn bad(fault: FrameFault, at: usize) -> Scan<Frame91, At<FrameFault>>
+pub(crate) fn bad(fault: FrameFault, at: usize) -> Scan<Frame91, At<FrameFault>>
     ensures { result ≡ Scan.Bad (record { fault = fault; at = at }) }
 {
     Scan::Bad(At { fault, at })

@@ -2,7 +2,7 @@
 use Rattle.std.proofs.Common.{◌≡◌, ◌∙◌, ℕ, zero, suc, ◌+◌, ◌-◌, ◌<◌, Bool, true, false, List, []}
 use Rattle.std.proofs.Common.{◌∷◌, ◌++◌, refl, sym, ap, subst, arith, drop, length, append_assoc}
 use Rattle.std.proofs.Common.{length-append}
-use Rattle.std.proofs.Math.Seq.{drop-length, drop-nil}
+use Rattle.std.proofs.Math.Seq.{drop-nil}
 use Rattle.gate_outside.specs.declared.ports.End.{End}
 use Rattle.gate_outside.specs.declared.ports.End.TheVariants.{Client, Up}
 use Rattle.machine_091.specs.State.{awaits}
@@ -20,7 +20,7 @@ use Rattle.gate_model.specs.State.{State, Step, Queued, Heard, OutOfMemory, step
 use Rattle.gate_model.specs.Upstream.{awaited_of}
 use Rattle.gate_pair.specs.Cutting.{Cut, after, as_step, behind, cut_all, cut_of, on_scan, read_end}
 use Rattle.gate_pair.specs.Cutting.{settle, step_scan, unit_scan, up_scan}
-use Rattle.gate_pair.specs.PairStates.{IsCut, QueuesInPart, Reads, ReadsInPart, ReadsUpInPart}
+use Rattle.gate_pair.specs.PairStates.{IsCut, IsRead, QueuesInPart, ReadsInPart, ReadsUpInPart}
 use Rattle.gate_pair.specs.PairStates.{Settles, SettlesInPart}
 use Rattle.gate_pair.proofs.Settlings.{Grows, grows_more, less_one, settled_grows}
 
@@ -31,11 +31,19 @@ drop_list n (suc at) (x ∷ xs) =
     let e : suc (at + n) ≡ suc at + n = omega arith in
     drop_list n at xs ∙ ap (λ m. drop m (x ∷ xs)) e
 
--- so far a read of an end made the steps k since the state old
-pub record Reading (end : End) (old now : State) (bytes : List ℕ) (at left : ℕ) : Type 0 where
+-- what is left behind a unit of the bytes that were kept and those that came
+pub drop_kept : (n at : ℕ) (kept bytes : List ℕ) → drop n kept ++ drop (at + (n - length kept)) bytes ≡ drop n (kept ++ drop at bytes)
+drop_kept zero at [] bytes = ap (λ m. drop m bytes) (let e : at + 0 ≡ at = omega arith in e)
+drop_kept (suc n) at [] bytes = ap (λ m. drop m bytes) (let e : at + (suc n - 0) ≡ at + suc n = omega arith in e) ∙ sym (drop_list (suc n) at bytes)
+drop_kept zero at (x ∷ kept) bytes = ap (λ m. (x ∷ kept) ++ drop m bytes) (let e : at + (0 - suc (length kept)) ≡ at = omega arith in e)
+drop_kept (suc n) at (x ∷ kept) bytes =
+    ap (λ m. drop n kept ++ drop m bytes) (let e : at + (suc n - suc (length kept)) ≡ at + (n - length kept) = omega arith in e) ∙ drop_kept n at kept bytes
+
+-- so far a read of an end made the steps k since the state old, and these bytes are left of it
+pub record Reading (end : End) (old now : State) (bytes rest : List ℕ) (left : ℕ) : Type 0 where
   pub k : List Step
   pub here : now ≡ after k old
-  pub same : read_end end old left k (drop at bytes) ≡ cut_all end old bytes
+  pub same : read_end end old left k rest ≡ cut_all end old bytes
 
 -- what can be taken up was, at the start and behind a unit
 abbrev pub Follows : End → State → State → Type 0
@@ -46,7 +54,7 @@ follows_is : (end : End) (old v next : State) (g : List Step) → v ≡ after g 
 follows_is Client old v next g e f = f old g e
 follows_is Up old v next g e f = f ∙ e
 
-pub read_start : (end : End) (old now : State) (bytes : List ℕ) → Follows end old now → Reading end old now bytes 0 (length bytes)
+pub read_start : (end : End) (old now : State) (bytes : List ℕ) → Follows end old now → Reading end old now bytes bytes (length bytes)
 read_start end old now bytes f = record { k = behind end old []; here = follows_is end old old now [] refl f; same = refl }
 
 step_read : (end : End) (old now : State) (k : List Step) (f : ℕ) (rest : List ℕ) (x : Scan Step Step) → now ≡ after k old → step_scan end now rest ≡ x →
@@ -55,36 +63,42 @@ step_read end old now k f rest x here e =
     ap (λ y. on_scan y (cut_of k rest) (λ s. cut_of (behind end old (s ∷ k)) []) (λ s n. read_end end old f (behind end old (s ∷ k)) (drop n rest)))
     (ap (λ (w : State). step_scan end w rest) (sym here) ∙ e)
 
-left_at : (end : End) (old now : State) (bytes : List ℕ) (at i : ℕ) → i < length bytes → Reading end old now bytes at (length bytes - i) → Reading end old now bytes at (suc (length bytes - (i + 1)))
-left_at end old now bytes at i lt r = subst (Reading end old now bytes at) (less_one (length bytes) i lt) r
+left_at : (end : End) (old now : State) (bytes rest : List ℕ) (i : ℕ) → i < length bytes → Reading end old now bytes rest (length bytes - i)
+    → Reading end old now bytes rest (suc (length bytes - (i + 1)))
+left_at end old now bytes rest i lt r = subst (Reading end old now bytes rest) (less_one (length bytes) i lt) r
 
-pub whole_at : (end : End) (old now next : State) (bytes : List ℕ) (at i n : ℕ) (s : Step) → i < length bytes → Reading end old now bytes at (length bytes - i)
-    → step_scan end now (drop at bytes) ≡ Whole s n → Follows end (step now s) next → Reading end old next bytes (at + n) (length bytes - (i + 1))
-whole_at end old now next bytes at i n s lt r e m =
+pub whole_at : (end : End) (old now next : State) (bytes rest more : List ℕ) (i n : ℕ) (s : Step) → i < length bytes → Reading end old now bytes rest (length bytes - i)
+    → step_scan end now rest ≡ Whole s n → Follows end (step now s) next → more ≡ drop n rest → Reading end old next bytes more (length bytes - (i + 1))
+whole_at end old now next bytes rest more i n s lt r e m is =
     let f = length bytes - (i + 1) in
-    let x = left_at end old now bytes at i lt r in
+    let x = left_at end old now bytes rest i lt r in
     record {
       k = behind end old (s ∷ x.k);
       here = follows_is end old (step now s) next (s ∷ x.k) (ap (λ (w : State). step w s) x.here) m;
-      same = ap (read_end end old f (behind end old (s ∷ x.k))) (sym (drop_list n at bytes)) ∙ sym (step_read end old now x.k f (drop at bytes) (Whole s n) x.here e) ∙ x.same;
+      same = ap (read_end end old f (behind end old (s ∷ x.k))) is ∙ sym (step_read end old now x.k f rest (Whole s n) x.here e) ∙ x.same;
     }
 
-pub more_at : (end : End) (old now : State) (bytes : List ℕ) (at i : ℕ) → i < length bytes → Reading end old now bytes at (length bytes - i)
-    → step_scan end now (drop at bytes) ≡ More → Reads end bytes at old now
-more_at end old now bytes at i lt r e =
-    let x = left_at end old now bytes at i lt r in
-    let all = sym (step_read end old now x.k (length bytes - (i + 1)) (drop at bytes) More x.here e) ∙ x.same in
+pub more_at : (end : End) (old now : State) (bytes rest : List ℕ) (i : ℕ) → i < length bytes → Reading end old now bytes rest (length bytes - i)
+    → step_scan end now rest ≡ More → IsRead old (cut_all end old bytes) now rest
+more_at end old now bytes rest i lt r e =
+    let x = left_at end old now bytes rest i lt r in
+    let all = sym (step_read end old now x.k (length bytes - (i + 1)) rest More x.here e) ∙ x.same in
     record { now = x.here ∙ ap (λ (c : Cut). after c.fresh old) all; left = ap (λ (c : Cut). c.unread) all }
 
-pub bad_at : (end : End) (old now next : State) (bytes : List ℕ) (at i : ℕ) (s : Step) → i < length bytes → Reading end old now bytes at (length bytes - i)
-    → step_scan end now (drop at bytes) ≡ Bad s → Follows end (step now s) next → Reads end bytes (length bytes) old next
-bad_at end old now next bytes at i s lt r e m =
-    let x = left_at end old now bytes at i lt r in
-    let all = sym (step_read end old now x.k (length bytes - (i + 1)) (drop at bytes) (Bad s) x.here e) ∙ x.same in
+pub bad_at : (end : End) (old now next : State) (bytes rest none : List ℕ) (i : ℕ) (s : Step) → i < length bytes → Reading end old now bytes rest (length bytes - i)
+    → step_scan end now rest ≡ Bad s → Follows end (step now s) next → none ≡ [] → IsRead old (cut_all end old bytes) next none
+bad_at end old now next bytes rest none i s lt r e m is =
+    let x = left_at end old now bytes rest i lt r in
+    let all = sym (step_read end old now x.k (length bytes - (i + 1)) rest (Bad s) x.here e) ∙ x.same in
     record {
       now = follows_is end old (step now s) next (s ∷ x.k) (ap (λ (w : State). step w s) x.here) m ∙ ap (λ (c : Cut). after c.fresh old) all;
-      left = drop-length bytes ∙ ap (λ (c : Cut). c.unread) all;
+      left = is ∙ ap (λ (c : Cut). c.unread) all;
     }
+
+-- as many units as there are bytes
+pub all_at : (end : End) (old now : State) (bytes rest : List ℕ) → Reading end old now bytes rest 0 → IsRead old (cut_all end old bytes) now rest
+all_at end old now bytes rest r =
+    record { now = r.here ∙ ap (λ (c : Cut). after c.fresh old) r.same; left = ap (λ (c : Cut). c.unread) r.same }
 
 -- a read adds steps in front
 behind_grows : (end : End) (old : State) (k : List Step) → Grows k (behind end old k)
@@ -113,15 +127,20 @@ cut_behind old next k all g c = record {
   now = c.now;
 }
 
-pub cut_at : (end : End) (old now next : State) (bytes : List ℕ) (at left : ℕ) → Reading end old now bytes at left → next ≡ step now OutOfMemory → ReadsInPart end bytes old next
-cut_at end old now next bytes at left r e =
-    let g = read_grows end old left r.k (drop at bytes) in
+pub cut_at : (end : End) (old now next : State) (bytes rest : List ℕ) (left : ℕ) → Reading end old now bytes rest left → next ≡ step now OutOfMemory → ReadsInPart end bytes old next
+cut_at end old now next bytes rest left r e =
+    let g = read_grows end old left r.k rest in
     record {
       newer = g.newer;
       older = r.k;
       parts = sym (ap (λ (c : Cut). c.fresh) r.same) ∙ g.parts;
       now = e ∙ ap (λ (w : State). step w OutOfMemory) r.here;
     }
+
+-- and behind it
+pub cut_behind_read : (old now next : State) (c : Cut) (rest : List ℕ) → IsRead old c now rest → next ≡ step now OutOfMemory → IsCut old next c.fresh
+cut_behind_read old now next c rest r e =
+    record { newer = []; older = c.fresh; parts = refl; now = e ∙ ap (λ (w : State). step w OutOfMemory) r.now }
 
 -- at a unit of the container: it doesn't count
 abbrev pub is_found : Scan Step Step → Bool
@@ -137,13 +156,13 @@ found_grows old f k rest (Bad s) e all is = (s, record { newer = []; parts = sym
 found_grows old f k rest (Whole s n) e all is =
     let g = read_grows Up old f (s ∷ k) (drop n rest) in (s, record { newer = g.newer; parts = sym is ∙ g.parts })
 
-pub found_cut_at : (old now next : State) (bytes : List ℕ) (at i : ℕ) → i < length bytes → Reading Up old now bytes at (length bytes - i)
-    → is_found (step_scan Up now (drop at bytes)) ≡ true → next ≡ step now OutOfMemory → ReadsUpInPart bytes old next
-found_cut_at old now next bytes at i lt r found e =
+pub found_cut_at : (old now next : State) (bytes rest : List ℕ) (i : ℕ) → i < length bytes → Reading Up old now bytes rest (length bytes - i)
+    → is_found (step_scan Up now rest) ≡ true → next ≡ step now OutOfMemory → ReadsUpInPart bytes old next
+found_cut_at old now next bytes rest i lt r found e =
     let f = length bytes - (i + 1) in
-    let x = left_at Up old now bytes at i lt r in
-    let all = sym (step_read Up old now x.k f (drop at bytes) _ x.here refl) ∙ x.same in
-    let g = found_grows old f x.k (drop at bytes) (step_scan Up now (drop at bytes)) found _ (ap (λ (c : Cut). c.fresh) all) in (
+    let x = left_at Up old now bytes rest i lt r in
+    let all = sym (step_read Up old now x.k f rest _ x.here refl) ∙ x.same in
+    let g = found_grows old f x.k rest (step_scan Up now rest) found _ (ap (λ (c : Cut). c.fresh) all) in (
       record {
         newer = g.1.newer ++ g.0 ∷ [];
         older = x.k;
@@ -165,21 +184,21 @@ pub start_cut_at : (old next : State) (bytes : List ℕ) → SettlesInPart old n
 start_cut_at old next bytes f =
     cut_behind old next (settle old []) _ (read_grows Client old (length bytes) (settle old []) bytes) (f old [] refl)
 
-pub whole_cut_at : (old now next : State) (bytes : List ℕ) (at i n : ℕ) (s : Step) → i < length bytes → Reading Client old now bytes at (length bytes - i)
-    → step_scan Client now (drop at bytes) ≡ Whole s n → QueuesInPart s now next → ReadsInPart Client bytes old next
-whole_cut_at old now next bytes at i n s lt r e f =
+pub whole_cut_at : (old now next : State) (bytes rest : List ℕ) (i n : ℕ) (s : Step) → i < length bytes → Reading Client old now bytes rest (length bytes - i)
+    → step_scan Client now rest ≡ Whole s n → QueuesInPart s now next → ReadsInPart Client bytes old next
+whole_cut_at old now next bytes rest i n s lt r e f =
     let left = length bytes - (i + 1) in
-    let x = left_at Client old now bytes at i lt r in
+    let x = left_at Client old now bytes rest i lt r in
     let k : List Step = settle old (s ∷ x.k) in
-    let all = sym (step_read Client old now x.k left (drop at bytes) (Whole s n) x.here e) ∙ x.same in
+    let all = sym (step_read Client old now x.k left rest (Whole s n) x.here e) ∙ x.same in
     subst (λ (c : Cut). IsCut old next c.fresh) all
-    (cut_behind old next k _ (read_grows Client old left k (drop n (drop at bytes))) (f old x.k x.here))
+    (cut_behind old next k _ (read_grows Client old left k (drop n rest)) (f old x.k x.here))
 
-pub bad_cut_at : (old now next : State) (bytes : List ℕ) (at i : ℕ) (s : Step) → i < length bytes → Reading Client old now bytes at (length bytes - i)
-    → step_scan Client now (drop at bytes) ≡ Bad s → QueuesInPart s now next → ReadsInPart Client bytes old next
-bad_cut_at old now next bytes at i s lt r e f =
-    let x = left_at Client old now bytes at i lt r in
-    let all = sym (step_read Client old now x.k (length bytes - (i + 1)) (drop at bytes) (Bad s) x.here e) ∙ x.same in
+pub bad_cut_at : (old now next : State) (bytes rest : List ℕ) (i : ℕ) (s : Step) → i < length bytes → Reading Client old now bytes rest (length bytes - i)
+    → step_scan Client now rest ≡ Bad s → QueuesInPart s now next → ReadsInPart Client bytes old next
+bad_cut_at old now next bytes rest i s lt r e f =
+    let x = left_at Client old now bytes rest i lt r in
+    let all = sym (step_read Client old now x.k (length bytes - (i + 1)) rest (Bad s) x.here e) ∙ x.same in
     subst (λ (c : Cut). IsCut old next c.fresh) all (f old x.k x.here)
 
 -- a unit that is queued, and what is taken up behind it

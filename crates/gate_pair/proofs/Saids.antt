@@ -25,7 +25,7 @@ use Rattle.gate_pair.specs.Cutting.{Cut, after, cut_all, settle}
 use Rattle.gate_pair.specs.Meaning.{Stream, Told, came, leaves, made, pair_words, ran_out, read_in}
 use Rattle.gate_pair.specs.Meaning.{settled, steps, taken_up, told}
 use Rattle.gate_pair.proofs.Cuts.{drop_list, none_cut}
-use Rattle.gate_pair.specs.PairStates.{FailedAt, FailedIn, Half, IsCut, PairState, Reads}
+use Rattle.gate_pair.specs.PairStates.{FailedAt, FailedIn, Half, IsCut, IsRead, PairState, Reads}
 use Rattle.gate_pair.specs.PairStates.{ReadsInPart, Represents, Said, Says, Settles}
 use Rattle.gate_pair.specs.PairStates.{rest_at, said, said_of, stream_at, unlined}
 
@@ -94,21 +94,21 @@ moved_says s b d x y i j old was is k t e =
 -- ---- a read of which all counts
 
 -- bytes of the client were cut
-pub taken_in : (all bytes : List ℕ) (n : ℕ) (b d : BridgeState) (x y z : Half) (i j : Bool) (old : PairState) → pair_of b x y i ≡ old → all ≡ x.unread ++ bytes
-    → Reads Client all n b.state d.state → Keeps b d → z ≡ record x { unread = drop n all }
+pub taken_in : (bytes : List ℕ) (b d : BridgeState) (x y z : Half) (i j : Bool) (old : PairState) → pair_of b x y i ≡ old
+    → IsRead b.state (cut_all Client b.state (x.unread ++ bytes)) d.state z.unread → Keeps b d → z.at ≡ x.at
     → (t : Told) → Says old t → Says (pair_of d z y j) (read_in Client bytes t)
-taken_in all bytes n b d x y z i j old was is r k half t e =
+taken_in bytes b d x y z i j old was r k sent t e =
     let f : Says (pair_of b x y i) t = says_of b x y i old t was e in
     let w : b.state ≡ before (steps t) = ap (λ (z : Said). z.state) f in
-    let u : all ≡ t.client.unread ++ bytes = is ∙ ap (λ (z : Said). z.client.unread ++ bytes) f in
-    let here : cut_all Client b.state all ≡ cut_all Client (before (steps t)) (t.client.unread ++ bytes) =
+    let u : x.unread ++ bytes ≡ t.client.unread ++ bytes = ap (λ (z : Said). z.client.unread ++ bytes) f in
+    let here : cut_all Client b.state (x.unread ++ bytes) ≡ cut_all Client (before (steps t)) (t.client.unread ++ bytes) =
     ap (cut_all Client b.state) u ∙ ap (λ (v : State). cut_all Client v (t.client.unread ++ bytes)) w in
     let g : List Step = (cut_all Client (before (steps t)) (t.client.unread ++ bytes)).fresh in
     same_said _ _ _ _ _ _
     (r.now ∙ ap (λ (c : Cut). after c.fresh b.state) here ∙ ap (after g) w ∙ sym (after_before g (steps t)))
     (same_stream _ _ _ _
-    (ap (λ (h : Half). h.unread) half ∙ r.left ∙ ap (λ (c : Cut). c.unread) here)
-    (ap (λ (h : Half). rest_at (is_busy d.state Client) h.at d.client.bytes) half ∙ rest_kept Client b d x.at k ∙ ap (λ (z : Said). z.client.rest) f))
+    (r.left ∙ ap (λ (c : Cut). c.unread) here)
+    (ap (λ (n : ℕ). rest_at (is_busy d.state Client) n d.client.bytes) sent ∙ rest_kept Client b d x.at k ∙ ap (λ (z : Said). z.client.rest) f))
     (stream_kept Up b d y k ∙ ap (λ (z : Said). z.up) f)
 
 -- bytes of the container were cut
@@ -163,22 +163,15 @@ pub same_half : (a b : List ℕ) (i j : ℕ) → a ≡ b → i ≡ j → (let x 
 same_half a b i j p q = cc
 
 -- of the client
-pub taken_failed : (all bytes : List ℕ) (b d : BridgeState) (x y z : Half) (i j : Bool) (old new : PairState) → pair_of b x y i ≡ old → all ≡ x.unread ++ bytes → z.at ≡ x.at
-    → new ≡ lost_of d z y j → ReadsInPart Client all b.state d.state → Keeps b d → FailedIn (read_in Client bytes) old new
-taken_failed all bytes b d x y z i j old new was is at now c k =
+pub taken_failed : (bytes : List ℕ) (b d : BridgeState) (x y z : Half) (i j : Bool) (old new : PairState) → pair_of b x y i ≡ old → z.at ≡ x.at
+    → new ≡ lost_of d z y j → ReadsInPart Client (x.unread ++ bytes) b.state d.state → Keeps b d → FailedIn (read_in Client bytes) old new
+taken_failed bytes b d x y z i j old new was at now c k =
     between (FailedIn (read_in Client bytes)) (pair_of b x y i) (lost_of d x y j) old new was
     (now ∙ ap (λ (h : Half). pair_of d h (dropped y) j) (same_half [] [] z.at x.at refl at)) (
       suc (0 + length c.newer),
       failed_at (read_in Client bytes) b d x y i j 0 _ c k
-          (λ t e. ap (λ (z : Said). (cut_all Client z.state (z.client.unread ++ bytes)).fresh) (sym e) ∙ ap (λ (xs : List ℕ). (cut_all Client b.state xs).fresh) (sym is))
-          (λ t. refl) (λ t. refl) (λ t. refl),
+          (λ t e. ap (λ (z : Said). (cut_all Client z.state (z.client.unread ++ bytes)).fresh) (sym e)) (λ t. refl) (λ t. refl) (λ t. refl),
     )
-
-pub taken_lost : (bytes : List ℕ) (b d : BridgeState) (x y z : Half) (i j : Bool) (old new : PairState) → pair_of b x y i ≡ old → z ≡ x
-    → new ≡ lost_of d z y j → d ≡ moved OutOfMemory b → Keeps b d → FailedIn (read_in Client bytes) old new
-taken_lost bytes b d x y z i j old new was half now is k =
-    taken_failed (x.unread ++ bytes) bytes b d x y z i j old new was refl (ap (λ (h : Half). h.at) half) now
-    (none_cut Client b.state d.state (x.unread ++ bytes) (ap (λ (v : BridgeState). v.state) is)) k
 
 -- of the container
 pub heard_failed : (all bytes : List ℕ) (b d : BridgeState) (x y z : Half) (i j : Bool) (old new : PairState) → pair_of b x y i ≡ old → all ≡ y.unread ++ bytes → z.at ≡ y.at

@@ -1,60 +1,24 @@
 //! The bytes of each end, cut into units.
 
-ghost use Rattle.std.specs.Prelude.{◌≡◌, ◌≤◌, false, true, length, OnOk, OnErr, IfOk};
+ghost use Rattle.std.specs.Prelude.{◌≡◌, ◌≤◌, ◌++◌, false, true, drop, length, OnOk, OnErr};
+ghost use Rattle.std.specs.Prelude.{IfOk};
 ghost use Rattle.gate_outside.specs.declared.ports.End.TheVariants.{Client, Up};
 ghost use Rattle.frames_10.specs.FrameScan.{is_whole};
 ghost use Rattle.bridge_core.specs.Offers.{Keeps};
 ghost use Rattle.gate_model.specs.State.{Queued, step};
-ghost use Rattle.gate_pair.specs.Cutting.{IsLongEnough, IsWithin, unit_scan, up_scan};
-ghost use Rattle.gate_pair.specs.PairStates.{QueuesInPart, Reads, ReadsInPart, ReadsUpInPart};
+ghost use Rattle.gate_pair.specs.Cutting.{IsWithin, cut_all, up_scan};
+ghost use Rattle.gate_pair.specs.PairStates.{IsRead, QueuesInPart, Reads, ReadsInPart};
+ghost use Rattle.gate_pair.specs.PairStates.{ReadsUpInPart};
 ghost use Rattle.gate_pair.specs.PairStates.{Settles, SettlesInPart, StaysSound};
 
+use crate::client_half::ClientHalf;
 use bridge_core::Bridge;
-use close_translate::FRAME_ERROR;
 use frames_10::{Kind10, scan_frame10, scan_header10};
-use frames_091::{scan_frame, scan_header};
 use machine_10::{Awaited10, FRAME_MAX, Unit10};
-use machine_091::{Awaited91, FRAME_MIN_SIZE, Unit91};
+use machine_091::Unit91;
 use performatives_10::Condition;
 use std::alloc::Global;
 use wire_base::{Memory, Scan};
-
-/// The protocol header, with which a client's bytes begin.
-fn scan_greeting(bytes: &[u8]) -> Scan<Unit91, u16>
-    ensures { result ≡ unit_scan Awaited91.Header bytes.now }
-{
-    match scan_header(bytes) {
-        Scan::Whole(_, n) => Scan::Whole(Unit91::Protocol, n),
-        Scan::More => Scan::More,
-        Scan::Bad(_) => Scan::Bad(0),
-    }
-}
-
-/// The frame with which a client's bytes begin.
-fn scan_next(alloc: Global, bytes: &[u8], size: u32) -> Result<Scan<Unit91, u16>, Memory>
-    requires { FRAME_MIN_SIZE ≤ size }
-    ensures { IfOk result (λ scan. scan ≡ unit_scan (Awaited91.Frame size) bytes.now) }
-{
-    match scan_frame(alloc, bytes, size)? {
-        Scan::Whole(frame, n) => Ok(Scan::Whole(Unit91::Frame(frame), n)),
-        Scan::More => Ok(Scan::More),
-        Scan::Bad(_) => Ok(Scan::Bad(FRAME_ERROR)),
-    }
-}
-
-/// The unit with which a client's bytes begin, as one is awaited.
-#[tactic(auto, using(crate::proofs::Within::within))]
-fn scan_unit(alloc: Global, awaited: Awaited91, bytes: &[u8]) -> Result<Scan<Unit91, u16>, Memory>
-    requires { IsLongEnough awaited }
-    ensures exact { IfOk result (λ scan. scan ≡ unit_scan awaited bytes.now) }
-    ensures within { IfOk result (IsWithin bytes.now) }
-{
-    match awaited {
-        Awaited91::Header => Ok(scan_greeting(bytes)),
-        Awaited91::Frame(size) => scan_next(alloc, bytes, size),
-        Awaited91::Nothing => Ok(Scan::More),
-    }
-}
 
 /// The protocol header of this kind, with which a container's bytes begin.
 fn scan_greeting_up(bytes: &[u8], kind: Kind10) -> Scan<Unit10, Condition>
@@ -140,15 +104,23 @@ fn queue_unit(bridge: &mut Bridge, alloc: Global, unit: Unit91) -> Result<(), Me
     }
 }
 
-/// Cuts the client's bytes into units, and takes up what can be before each and at last. The result
-/// is how many bytes were cut off. If the pair runs out of memory, what was done before that place
-/// counts.
+/// Cuts the client's bytes, with those before them that are no unit yet, into units, and takes up
+/// what can be before each and at last. The result is how many bytes were cut off.
 #[tactic(auto, using(crate::proofs::Within::long_enough))]
-pub fn cut_client(bridge: &mut Bridge, alloc: Global, bytes: &[u8]) -> Result<usize, Memory>
+fn cut_units(
+    bridge: &mut Bridge,
+    alloc: Global,
+    half: &mut ClientHalf,
+    bytes: &[u8],
+) -> Result<usize, Memory>
     requires { bridge.old.state.out_of_memory ≡ false }
-    ensures ok { IfOk result (λ at. Reads Client bytes.now at bridge.old.state bridge.new.state) }
+    ensures ok { IfOk result (λ at. IsRead bridge.old.state
+        (cut_all Client bridge.old.state (half.old.unread ++ bytes.now))
+        bridge.new.state (half.new.unread ++ drop at bytes.now)) }
     ensures within { IfOk result (λ at. at ≤ length bytes.now) }
-    ensures err { OnErr result (ReadsInPart Client bytes.now bridge.old.state bridge.new.state) }
+    ensures err { OnErr result (ReadsInPart Client (half.old.unread ++ bytes.now)
+        bridge.old.state bridge.new.state) }
+    ensures sent { half.new.at ≡ half.old.at }
     ensures calm { OnOk result (bridge.new.state.out_of_memory ≡ false) }
     ensures met { OnErr result (bridge.new.state.out_of_memory ≡ true) }
     ensures kept { Keeps bridge.old bridge.new }
@@ -159,19 +131,22 @@ pub fn cut_client(bridge: &mut Bridge, alloc: Global, bytes: &[u8]) -> Result<us
         Err(error) => return Err(error),
     }
     let mut at = 0;
-    let count = bytes.len();
-    for i in 0..count {
+    // There are no more units than bytes. As far as types tell, their number may pass 64 bits.
+    let most = half.len() as u128 + bytes.len() as u128;
+    for i in 0..most {
+        let kept = half.len();
         let (_, rest) = bytes.split_at(at);
-        match scan_unit(alloc, bridge.awaits(), rest) {
+        match half.scan_unit(alloc, bridge.awaits(), rest) {
             Ok(Scan::More) => return Ok(at),
             Ok(Scan::Bad(code)) => {
+                half.forget();
                 return match queue_unit(bridge, alloc, Unit91::Bad(code)) {
-                    Ok(()) => Ok(count),
+                    Ok(()) => Ok(bytes.len()),
                     Err(error) => Err(error),
                 };
             }
             Ok(Scan::Whole(unit, n)) => match queue_unit(bridge, alloc, unit) {
-                Ok(()) => at += n,
+                Ok(()) => at += n.saturating_sub(kept),
                 Err(error) => return Err(error),
             },
             Err(error) => {
@@ -181,6 +156,42 @@ pub fn cut_client(bridge: &mut Bridge, alloc: Global, bytes: &[u8]) -> Result<us
         }
     }
     Ok(at)
+}
+
+/// Cuts the client's bytes, with those before them that are no unit yet, into units, and takes up
+/// what can be before each and at last. What is no unit yet stays. If the pair runs out of memory,
+/// what was done before that place counts.
+pub fn cut_client(
+    bridge: &mut Bridge,
+    alloc: Global,
+    half: &mut ClientHalf,
+    bytes: &[u8],
+) -> Result<(), Memory>
+    requires { bridge.old.state.out_of_memory ≡ false }
+    ensures ok { OnOk result (IsRead bridge.old.state
+        (cut_all Client bridge.old.state (half.old.unread ++ bytes.now))
+        bridge.new.state half.new.unread) }
+    ensures err { OnErr result (ReadsInPart Client (half.old.unread ++ bytes.now)
+        bridge.old.state bridge.new.state) }
+    ensures sent { half.new.at ≡ half.old.at }
+    ensures calm { OnOk result (bridge.new.state.out_of_memory ≡ false) }
+    ensures met { OnErr result (bridge.new.state.out_of_memory ≡ true) }
+    ensures kept { Keeps bridge.old bridge.new }
+    ensures sound { StaysSound bridge.old bridge.new }
+{
+    match cut_units(bridge, alloc, half, bytes) {
+        Ok(at) => {
+            let (_, rest) = bytes.split_at(at);
+            match half.append(rest) {
+                Ok(()) => Ok(()),
+                Err(error) => {
+                    bridge.run_out();
+                    Err(error)
+                }
+            }
+        }
+        Err(error) => Err(error),
+    }
 }
 
 /// The same of the container's bytes. If the pair runs out of memory, then at a unit, which doesn't

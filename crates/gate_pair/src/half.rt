@@ -1,4 +1,4 @@
-//! What a pair keeps of one end.
+//! What a pair keeps of its container's end.
 
 ghost use Rattle.std.specs.Prelude.{◌≡◌, ◌≤◌, [], ◌++◌, length, drop, OnOk, OnErr};
 
@@ -6,10 +6,10 @@ use std::alloc::Global;
 use std::marker::Model;
 use wire_base::{ByteText, Memory};
 
-/// What a pair keeps of one end.
+/// What a pair keeps of its container's end.
 #[derive(Drop)]
 pub struct Half {
-    /// Bytes that are no unit yet, or that wait.
+    /// Bytes that are no unit yet.
     unread: ByteText,
     /// How many bytes of the unit in progress were sent.
     at: usize,
@@ -34,7 +34,7 @@ impl Half {
         }
     }
 
-    /// The bytes that are no unit yet, or that wait.
+    /// The bytes that are no unit yet.
     pub fn unread(&self) -> &[u8]
         ensures { result.now ≡ self.now.unread }
     {

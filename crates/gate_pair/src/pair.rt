@@ -14,6 +14,7 @@ ghost use Rattle.gate_pair.specs.PairStates.{Advances, FailedIn, IsOffered, Says
 ghost use Rattle.gate_pair.specs.PairStates.{StaysSound, forgotten, half_of, is_ready, said};
 ghost use Rattle.gate_pair.specs.PairStates.{said_stream, tells_at};
 
+use crate::client_half::ClientHalf;
 use crate::cutting::{cut_client, cut_up, settle_all};
 use crate::half::Half;
 use bridge_core::Bridge;
@@ -30,7 +31,7 @@ pub struct Pair {
     /// What happened last may make lines of the report due.
     telling: bool,
     bridge: Bridge,
-    client: Half,
+    client: ClientHalf,
     up: Half,
 }
 
@@ -150,19 +151,9 @@ impl Pair {
         ensures met { OnErr result (self.new.bridge.state.out_of_memory ≡ true) }
     {
         self.telling = true;
-        match self.client.append(bytes) {
-            Ok(()) => match cut_client(&mut self.bridge, alloc, self.client.unread()) {
-                Ok(at) => {
-                    self.client.discard(at);
-                    Ok(())
-                }
-                Err(error) => {
-                    self.forget();
-                    Err(error)
-                }
-            },
+        match cut_client(&mut self.bridge, alloc, &mut self.client, bytes) {
+            Ok(()) => Ok(()),
             Err(error) => {
-                self.bridge.run_out();
                 self.forget();
                 Err(error)
             }
@@ -321,7 +312,7 @@ impl Relay for Pair {
         let site = setup.site(alloc)?;
         Ok(Pair {
             bridge: Bridge::new(alloc, site, number, moment),
-            client: Half::new(alloc),
+            client: ClientHalf::new(alloc),
             up: Half::new(alloc),
             telling: false,
         })

@@ -1,4 +1,4 @@
-use Rattle.std.proofs.Common.{◌≡◌, ◌-◌, ◌≤◌, false, length}
+use Rattle.std.proofs.Common.{◌≡◌, ◌-◌, ◌≤◌, drop, false, length}
 use Rattle.gate_outside.specs.declared.ports.End.TheVariants.{Up}
 use Rattle.bridge_core.specs.Offers.{Keeps}
 use Rattle.gate_pair.specs.PairStates.{StaysSound}
@@ -8,7 +8,7 @@ use Rattle.gate_pair.proofs.cutting.cut_up.Given as goal
 abbrev pub invariant-loop-i : goal.invariant-loop-i
 invariant-loop-i l = record {
   within : l.at ≤ length l.bytes;
-  runs : Reading Up l.fn.bridge.state l.bridge.state l.bytes l.at (length l.bytes - l.i);
+  runs : Reading Up l.fn.bridge.state l.bridge.state l.bytes (drop l.at l.bytes) (length l.bytes - l.i);
   calm : l.bridge.state.out_of_memory ≡ false;
   kept : Keeps l.fn.bridge l.bridge;
   sound : StaysSound l.fn.bridge l.bridge;

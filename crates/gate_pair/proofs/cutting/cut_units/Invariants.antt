@@ -1,14 +1,16 @@
-use Rattle.std.proofs.Common.{◌≡◌, ◌-◌, ◌≤◌, false, length}
+use Rattle.std.proofs.Common.{◌≡◌, ◌-◌, ◌≤◌, ◌++◌, drop, false, length}
 use Rattle.gate_outside.specs.declared.ports.End.TheVariants.{Client}
 use Rattle.bridge_core.specs.Offers.{Keeps}
 use Rattle.gate_pair.specs.PairStates.{StaysSound}
 use Rattle.gate_pair.proofs.Cuts.{Reading}
-use Rattle.gate_pair.proofs.cutting.cut_client.Given as goal
+use Rattle.gate_pair.proofs.cutting.cut_units.Given as goal
 
 abbrev pub invariant-loop-i : goal.invariant-loop-i
 invariant-loop-i l = record {
   within : l.at ≤ length l.bytes;
-  runs : Reading Client l.fn.bridge.state l.bridge.state l.bytes l.at (length l.bytes - l.i);
+  sent : l.half.at ≡ l.fn.half.at;
+  runs : Reading Client l.fn.bridge.state l.bridge.state (l.fn.half.unread ++ l.bytes) (l.half.unread ++ drop l.at l.bytes)
+      (length (l.fn.half.unread ++ l.bytes) - l.i);
   calm : l.bridge.state.out_of_memory ≡ false;
   kept : Keeps l.fn.bridge l.bridge;
   sound : StaysSound l.fn.bridge l.bridge;
