@@ -4,7 +4,7 @@ use crate::credits::{receiver_text, sender_text};
 use crate::deliveries::deliveries_text;
 use crate::handles::handles_text;
 use crate::publishes::Sends;
-use crate::words::{Words, silent, words_of};
+use crate::words::{Words, silent, word_first, words_of};
 use consume_path::Deliveries;
 use links_10::{RecvLink, SendLink};
 use std::alloc::Global;
@@ -58,7 +58,7 @@ impl PathCases {
 
 impl Cases for PathCases {
     fn answer(&mut self, alloc: Global, line: &str) -> Result<Option<String>, Memory> {
-        let (subject, rest) = line.split_once(' ').unwrap_or((line, ""));
+        let (subject, rest) = word_first(line);
         match self.text(alloc, subject, words_of(rest))? {
             Some(mut text) => {
                 if !text.is_empty() {

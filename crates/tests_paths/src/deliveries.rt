@@ -9,7 +9,6 @@ use consume_path::{
 };
 use open_items::LostItem;
 use std::alloc::Global;
-use tests_support::bytes_of;
 use wire_base::{ByteText, Memory};
 
 /// A link is attached.
@@ -56,23 +55,23 @@ fn part_of(words: Words) -> Part
     }
 }
 
-/// What goes to the client of a delivery; nothing where its words say `no-image`.
-fn content(alloc: Global, words: Words) -> Result<Option<Content>, Memory> {
+/// What goes to the client of a delivery, without bytes; nothing where its words say `no-image`.
+fn content(alloc: Global, words: Words) -> Option<Content> {
     if has_word(words.text, "no-image") {
-        return Ok(None);
+        return None;
     }
-    Ok(Some(Content {
+    Some(Content {
         exchange: ByteText::empty(alloc),
-        key: ByteText::copy_of(alloc, b"q")?,
+        key: ByteText::empty(alloc),
         frames: Frames::empty(alloc),
-    }))
+    })
 }
 
 /// A transfer comes; a delivery that is whole is taken.
 fn transfer(alloc: Global, deliveries: &mut Deliveries, words: Words) -> Result<Arrival, Memory> {
     let arrival = deliveries.transfer(words.first, part_of(words), b"bytes")?;
     if deliveries.is_whole(words.first) {
-        deliveries.arrived(words.first, content(alloc, words)?, false)?;
+        deliveries.arrived(words.first, content(alloc, words), false)?;
     }
     Ok(arrival)
 }
@@ -80,8 +79,7 @@ fn transfer(alloc: Global, deliveries: &mut Deliveries, words: Words) -> Result<
 /// The transfer that ends its delivery comes, and the delivery is taken at once.
 fn last(alloc: Global, deliveries: &mut Deliveries, words: Words) -> Result<(), Memory> {
     let again = has_word(words.text, "again");
-    let content = content(alloc, words)?;
-    deliveries.last_transfer(words.first, part_of(words), content, again)
+    deliveries.last_transfer(words.first, part_of(words), content(alloc, words), again)
 }
 
 /// The deliver or get-ok that is due is begun: its tag and its delivery-id.
@@ -89,9 +87,10 @@ fn deliver(deliveries: &mut Deliveries) -> Option<(u64, u32)> {
     if deliveries.tags() >= 1_000 {
         return None;
     }
-    let next = deliveries.next_deliver()?;
-    let tag = deliveries.commit_deliver(next);
-    Some((tag, next.id))
+    match deliveries.next_deliver() {
+        Some(next) => Some((deliveries.commit_deliver(next), next.id)),
+        None => None,
+    }
 }
 
 /// The disposition that is due is sent.
@@ -105,12 +104,17 @@ fn settle(deliveries: &mut Deliveries) -> Option<NextSettle> {
 
 /// The line that is due of the delivery in this place.
 fn line(deliveries: &Deliveries, place: usize) -> Option<LostItem> {
-    let delivery = deliveries.items().get(place)?;
-    Some(LostItem {
-        life: deliveries.life(),
-        number: delivery.id as u64,
-        kind: delivery.line?,
-    })
+    match deliveries.items().get(place) {
+        Some(delivery) => match delivery.line {
+            Some(kind) => Some(LostItem {
+                life: deliveries.life(),
+                number: u64::from(delivery.id),
+                kind,
+            }),
+            None => None,
+        },
+        None => None,
+    }
 }
 
 /// What is wrong with a transfer of one byte.
@@ -123,23 +127,39 @@ fn knows(deliveries: &Deliveries, words: Words) -> bool {
     deliveries.knows(u64::from(words.first), has_word(words.text, "multiple"))
 }
 
-/// A question on the links; `None` where there is no such one.
-fn links_text(
+/// Bytes, as a text where they are one.
+fn bytes_text(alloc: Global, bytes: &[u8]) -> Result<Option<String>, Memory> {
+    told(alloc, ByteText::copy_of(alloc, bytes)?)
+}
+
+/// A question on one link; `None` where there is no such one.
+fn link_text(
     alloc: Global,
     deliveries: &Deliveries,
     words: Words,
 ) -> Result<Option<String>, Memory> {
     let link = words.first;
     match words.verb {
-        "links" => told(alloc, deliveries.links().len()),
-        "has-tag" => told(alloc, deliveries.has_tag(words.text.as_bytes())),
-        "tag-of" => told(alloc, ByteText::copy_of(alloc, deliveries.tag_of(link))?),
+        "tag-of" => bytes_text(alloc, deliveries.tag_of(link)),
+        "payload" => bytes_text(alloc, deliveries.payload(link)),
         "count" => told(alloc, deliveries.count_of(link)),
-        "payload" => told(alloc, ByteText::copy_of(alloc, deliveries.payload(link))?),
         "is-covered" => told(alloc, deliveries.covered(link)),
         "is-empty" => told(alloc, deliveries.drain_done(link)),
-        "fault" => told(alloc, fault(deliveries, words)),
         _ => Ok(None),
+    }
+}
+
+/// A question on the links; `None` where there is no such one.
+fn links_text(
+    alloc: Global,
+    deliveries: &Deliveries,
+    words: Words,
+) -> Result<Option<String>, Memory> {
+    match words.verb {
+        "links" => told(alloc, deliveries.links().len()),
+        "has-tag" => told(alloc, deliveries.has_tag(words.text.as_bytes())),
+        "fault" => told(alloc, fault(deliveries, words)),
+        _ => link_text(alloc, deliveries, words),
     }
 }
 
@@ -159,7 +179,7 @@ fn asked_text(
     }
 }
 
-/// What is done, and answers; `None` where there is no such event.
+/// What is done, and answers; the same of a question.
 fn done_text(
     alloc: Global,
     deliveries: &mut Deliveries,
@@ -170,18 +190,21 @@ fn done_text(
         "transfer" => told(alloc, transfer(alloc, deliveries, words)?),
         "deliver" => told(alloc, deliver(deliveries)),
         "settle" => told(alloc, settle(deliveries)),
-        _ => Ok(None),
+        _ => asked_text(alloc, deliveries, words),
     }
+}
+
+/// The link of a consumer is attached, whose tag is the text of its words.
+fn consume(alloc: Global, deliveries: &mut Deliveries, words: Words) -> Result<(), Memory> {
+    let tag = ByteText::copy_of(alloc, words.text.as_bytes())?;
+    let no_ack = false;
+    attach(deliveries, words.first, RecvKind::Consumer { tag, no_ack })
 }
 
 /// A link is attached, or a delivery is taken; whether there is such an event.
 fn growth(alloc: Global, deliveries: &mut Deliveries, words: Words) -> Result<bool, Memory> {
     match words.verb {
-        "consumer" => {
-            let tag = ByteText::copy_of(alloc, words.text.as_bytes())?;
-            let no_ack = false;
-            attach(deliveries, words.first, RecvKind::Consumer { tag, no_ack })?;
-        }
+        "consumer" => consume(alloc, deliveries, words)?,
         "getter" => attach(deliveries, words.first, RecvKind::Get)?,
         "last" => last(alloc, deliveries, words)?,
         _ => return Ok(false),
@@ -218,7 +241,11 @@ fn life_event(deliveries: &mut Deliveries, words: Words) -> bool {
 
 /// A number of 16 bits, the greatest where it has more.
 fn small(number: u32) -> u16 {
-    u16::try_from(number).unwrap_or(u16::MAX)
+    if number < 65_536 {
+        number as u16
+    } else {
+        u16::MAX
+    }
 }
 
 /// The outcome that a verb tells.
@@ -247,12 +274,6 @@ pub fn deliveries_text(
     deliveries: &mut Deliveries,
     words: Words,
 ) -> Result<Option<String>, Memory> {
-    if let Some(text) = asked_text(alloc, deliveries, words)? {
-        return Ok(Some(text));
-    }
-    if let Some(text) = done_text(alloc, deliveries, words)? {
-        return Ok(Some(text));
-    }
     if growth(alloc, deliveries, words)?
         || link_event(deliveries, words)
         || life_event(deliveries, words)
@@ -260,5 +281,5 @@ pub fn deliveries_text(
     {
         return silent(alloc);
     }
-    Ok(None)
+    done_text(alloc, deliveries, words)
 }

@@ -2,11 +2,10 @@
 
 ghost use Rattle.std.specs.Prelude.{◌≡◌, ◌<◌, IfOk, OnErr};
 
-use crate::words::{Words, has_word, silent, told};
+use crate::words::{Words, in_quotes, silent, told};
 use open_items::{Frames, LostItem};
 use publish_path::{Confirm, NextFrame, NextReturn, Outcome, Payload, Publishes, SendLinks};
 use std::alloc::Global;
-use tests_support::{bytes_of, put_text};
 use wire_base::{ByteText, Memory};
 
 /// The publishes of a life, and their links.
@@ -20,57 +19,36 @@ pub struct Sends {
 }
 
 /// A link is needed, unless one has its number or its address.
-fn add(links: &mut SendLinks, link: u32, address: ByteText) -> Result<(), Memory> {
-    if links.find(address.as_slice()).is_some() || links.get(link).is_some() {
+fn add(alloc: Global, links: &mut SendLinks, link: u32, address: &[u8]) -> Result<(), Memory> {
+    if links.find(address).is_some() || links.get(link).is_some() {
         return Ok(());
     }
-    links.add(link, address)
+    links.add(link, ByteText::copy_of(alloc, address)?)
 }
 
-fn attached(links: &mut SendLinks, link: u32) {
-    if links.get(link).is_some() {
-        links.attached(link);
+/// An event of a link that is there; whether there is such a one.
+fn link_event(links: &mut SendLinks, words: Words) -> bool {
+    let link = words.first;
+    if links.get(link).is_none() {
+        return false;
     }
-}
-
-fn flow(links: &mut SendLinks, link: u32, credit: u32) {
-    if links.get(link).is_some() {
-        links.flow(link, None, credit);
-    }
-}
-
-fn drain(links: &mut SendLinks, link: u32) {
-    if links.get(link).is_some() {
-        links.drain(link);
-    }
-}
-
-fn remove(links: &mut SendLinks, link: u32) {
-    if links.get(link).is_some() {
-        links.remove(link);
-    }
-}
-
-/// An event or a question of the links; `None` where there is no such one.
-fn links_text(
-    alloc: Global,
-    links: &mut SendLinks,
-    words: Words,
-) -> Result<Option<String>, Memory> {
-    let Some(bytes) = bytes_of(alloc, words.text)? else {
-        return Ok(None);
-    };
     match words.verb {
-        "needed" => add(links, words.first, bytes)?,
-        "attached" => attached(links, words.first),
-        "flow" => flow(links, words.first, words.second),
-        "drain" => drain(links, words.first),
-        "remove" => remove(links, words.first),
-        "find" => return told(alloc, links.find(bytes.as_slice())),
-        "can-send" => return told(alloc, links.can_send(words.first)),
-        _ => return Ok(None),
+        "attached" => links.attached(link),
+        "flow" => links.flow(link, None, words.second),
+        "drain" => links.drain(link),
+        "remove" => links.remove(link),
+        _ => return false,
     }
-    silent(alloc)
+    true
+}
+
+/// A question on the links; `None` where there is no such one.
+fn links_text(alloc: Global, links: &SendLinks, words: Words) -> Result<Option<String>, Memory> {
+    match words.verb {
+        "find" => told(alloc, links.find(words.text.as_bytes())),
+        "can-send" => told(alloc, links.can_send(words.first)),
+        _ => Ok(None),
+    }
 }
 
 /// The payload with these bytes: half of them in front, and the others behind.
@@ -101,16 +79,17 @@ fn take_up(
     publishes.add(link, confirm, payload, back)
 }
 
-fn push(alloc: Global, back: &mut Frames, frame: &[u8]) -> Result<(), Memory> {
-    back.push(ByteText::copy_of(alloc, frame)?)
+/// Adds the frames of a basic.return.
+fn put_frames(alloc: Global, back: &mut Frames) -> Result<(), Memory> {
+    back.push(ByteText::copy_of(alloc, b"method")?)?;
+    back.push(ByteText::copy_of(alloc, b"header")?)
 }
 
 /// The frames of a basic.return: two, or none.
 fn frames_back(alloc: Global, mandatory: bool) -> Result<Frames, Memory> {
     let mut back = Frames::empty(alloc);
     if mandatory {
-        push(alloc, &mut back, b"method")?;
-        push(alloc, &mut back, b"header")?;
+        put_frames(alloc, &mut back)?;
     }
     Ok(back)
 }
@@ -133,25 +112,20 @@ fn send(publishes: &mut Publishes, links: &mut SendLinks, most: usize) -> Option
 }
 
 /// The frame that is returned next; `None` where none is.
-fn frame_back(alloc: Global, publishes: &Publishes) -> Result<Option<ByteText>, Memory> {
+fn frame_back(publishes: &Publishes) -> Option<&ByteText> {
     match publishes.next_return() {
-        Some(next) => match publishes.return_frame(next.publish) {
-            Some(frame) => Ok(Some(frame.copy(alloc)?)),
-            None => Ok(None),
-        },
-        None => Ok(None),
+        Some(next) => publishes.return_frame(next.publish),
+        None => None,
     }
 }
 
 /// The frame that is returned next is sent.
-fn send_back(publishes: &mut Publishes) -> Option<NextReturn>
+fn send_back(publishes: &mut Publishes)
     ensures { publishes.new.numbers ≡ publishes.old.numbers }
 {
-    let next = publishes.next_return();
-    if next.is_some() {
+    if publishes.next_return().is_some() {
         publishes.returned();
     }
-    next
 }
 
 /// The confirm that is due is sent.
@@ -167,12 +141,17 @@ fn confirm(publishes: &mut Publishes) -> Option<Confirm>
 
 /// The line that is due of the publish in this place.
 fn line(publishes: &Publishes, place: usize) -> Option<LostItem> {
-    let publish = publishes.items().get(place)?;
-    Some(LostItem {
-        life: publishes.life(),
-        number: publish.number,
-        kind: publish.line?,
-    })
+    match publishes.items().get(place) {
+        Some(publish) => match publish.line {
+            Some(kind) => Some(LostItem {
+                life: publishes.life(),
+                number: publish.number,
+                kind,
+            }),
+            None => None,
+        },
+        None => None,
+    }
 }
 
 fn outcome_of(verb: &str) -> Option<Outcome> {
@@ -198,18 +177,25 @@ fn loss(publishes: &mut Publishes, words: Words) -> bool
     true
 }
 
+/// A question on what is held; `None` where there is no such one.
+fn held_text(alloc: Global, sends: &Sends, words: Words) -> Result<Option<String>, Memory> {
+    match words.verb {
+        "held" => told(alloc, sends.publishes.held()),
+        "waits" => told(alloc, sends.publishes.waits(words.first)),
+        "unanswered" => told(alloc, sends.publishes.unanswered(Some(words.first))),
+        _ => links_text(alloc, &sends.links, words),
+    }
+}
+
 /// A question on the publishes; `None` where there is no such one.
 fn asked_text(alloc: Global, sends: &Sends, words: Words) -> Result<Option<String>, Memory> {
     let publishes = &sends.publishes;
     match words.verb {
-        "held" => told(alloc, publishes.held()),
-        "waits" => told(alloc, publishes.waits(words.first)),
         "next" => told(alloc, publishes.next_frame(&sends.links, words.first)),
-        "unanswered" => told(alloc, publishes.unanswered(Some(words.first))),
         "next-id" => told(alloc, publishes.next_id()),
         "line" => told(alloc, line(publishes, words.first as usize)),
         "has-rest" => told(alloc, publishes.rest(u64::from(words.first)).is_some()),
-        _ => Ok(None),
+        _ => held_text(alloc, sends, words),
     }
 }
 
@@ -224,54 +210,65 @@ impl Sends {
     }
 
     /// A publish is taken up.
-    fn add(&mut self, alloc: Global, words: Words) -> Result<Option<String>, Memory> {
-        let Some(bytes) = bytes_of(alloc, words.text)? else {
-            return Ok(None);
-        };
+    fn add(
+        &mut self,
+        alloc: Global,
+        words: Words,
+        confirm: bool,
+        mandatory: bool,
+    ) -> Result<Option<String>, Memory> {
         if self.taken >= 100 {
             return Ok(None);
         }
-        let back = frames_back(alloc, words.verb == "mandatory")?;
-        let confirm = words.verb != "plain";
-        let payload = payload_of(alloc, bytes.as_slice())?;
+        let payload = payload_of(alloc, in_quotes(words.text).as_bytes())?;
+        let back = frames_back(alloc, mandatory)?;
         self.taken = take_up(&mut self.publishes, words.first, confirm, payload, back)?;
         told(alloc, self.taken)
     }
 
     /// The frame that is returned next is sent: its publish, whether it is the first, and its bytes.
     fn back_text(&mut self, alloc: Global) -> Result<Option<String>, Memory> {
-        let frame = frame_back(alloc, &self.publishes)?;
-        let next = send_back(&mut self.publishes);
-        told(alloc, (next, frame))
+        let publishes = &self.publishes;
+        let text = told(alloc, (publishes.next_return(), frame_back(publishes)));
+        send_back(&mut self.publishes);
+        text
     }
 
-    /// An event, and what it answers; `None` where there is no such one.
+    /// An event of a link, an outcome, a loss or a question, and what it answers; `None` where
+    /// there is no such one.
     fn event_text(&mut self, alloc: Global, words: Words) -> Result<Option<String>, Memory> {
-        let publishes = &mut self.publishes;
+        if let Some(outcome) = outcome_of(words.verb) {
+            let known = self.publishes.outcome(words.first, words.second, outcome);
+            return told(alloc, known);
+        }
+        if loss(&mut self.publishes, words) || link_event(&mut self.links, words) {
+            return silent(alloc);
+        }
+        asked_text(alloc, self, words)
+    }
+
+    /// What is sent, and what it answers; the same of any other event or question.
+    fn sent_text(&mut self, alloc: Global, words: Words) -> Result<Option<String>, Memory> {
+        let most = words.first as usize;
         match words.verb {
-            "plain" | "confirmed" | "mandatory" => self.add(alloc, words),
-            "send" => told(
-                alloc,
-                send(publishes, &mut self.links, words.first as usize),
-            ),
-            "confirm" => told(alloc, confirm(publishes)),
+            "send" => told(alloc, send(&mut self.publishes, &mut self.links, most)),
+            "confirm" => told(alloc, confirm(&mut self.publishes)),
             "return" => self.back_text(alloc),
-            _ if loss(publishes, words) => silent(alloc),
-            _ => match outcome_of(words.verb) {
-                Some(outcome) => told(alloc, publishes.outcome(words.first, words.second, outcome)),
-                None => Ok(None),
-            },
+            _ => self.event_text(alloc, words),
         }
     }
 
     /// An event or a question, and its answer; `None` where there is no such one.
     pub fn text(&mut self, alloc: Global, words: Words) -> Result<Option<String>, Memory> {
-        if let Some(text) = asked_text(alloc, self, words)? {
-            return Ok(Some(text));
+        match words.verb {
+            "plain" => self.add(alloc, words, false, false),
+            "confirmed" => self.add(alloc, words, true, false),
+            "mandatory" => self.add(alloc, words, true, true),
+            "needed" => {
+                add(alloc, &mut self.links, words.first, words.text.as_bytes())?;
+                silent(alloc)
+            }
+            _ => self.sent_text(alloc, words),
         }
-        if let Some(text) = links_text(alloc, &mut self.links, words)? {
-            return Ok(Some(text));
-        }
-        self.event_text(alloc, words)
     }
 }

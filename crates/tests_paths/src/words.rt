@@ -14,9 +14,14 @@ pub struct Words<'a> {
     pub text: &'a str,
 }
 
+/// The word before the first blank, and the text behind it.
+pub fn word_first(text: &str) -> (&str, &str) {
+    text.split_once(' ').unwrap_or((text, ""))
+}
+
 /// The number before the first blank, and the text behind it.
 fn number_first(text: &str) -> (u32, &str) {
-    let (word, rest) = text.split_once(' ').unwrap_or((text, ""));
+    let (word, rest) = word_first(text);
     match word.parse::<u32>() {
         Ok(number) => (number, rest),
         Err(_) => (0, text),
@@ -25,7 +30,7 @@ fn number_first(text: &str) -> (u32, &str) {
 
 /// The verb, the numbers and the text that words tell.
 pub fn words_of(words: &str) -> Words<'_> {
-    let (verb, rest) = words.split_once(' ').unwrap_or((words, ""));
+    let (verb, rest) = word_first(words);
     let (first, rest) = number_first(rest);
     let (second, text) = number_first(rest);
     Words {
@@ -34,6 +39,12 @@ pub fn words_of(words: &str) -> Words<'_> {
         second,
         text,
     }
+}
+
+/// What stands in quotes.
+pub fn in_quotes(text: &str) -> &str {
+    let text = text.strip_prefix("\"").unwrap_or(text);
+    text.strip_suffix("\"").unwrap_or(text)
 }
 
 /// A word stands in a text.
