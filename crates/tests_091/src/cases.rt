@@ -4,10 +4,10 @@ use crate::closes::{code_text, condition_text, error_text};
 use crate::contents::{content_text, frames_text};
 use crate::frames::{frame_text, header_text};
 use crate::machine::{Made, connection_text};
-use crate::methods::{answer_text, channel_close_text, close_ok_text, close_text, method_text};
-use crate::numbers::{changed_text, reader_text, reserved_text};
+use crate::methods::{Close, answer_text, close_ok_text, close_text, method_text};
+use crate::numbers::{changed_text, reader_text};
 use crate::tables::{kinds_text, table_text};
-use crate::words::{line_of, number_first, put_run, short_of};
+use crate::words::{line_of, number_first, put_run, short_first, short_of};
 use std::alloc::Global;
 use tests_support::{Cases, Names, part};
 use wire_base::Memory;
@@ -88,18 +88,16 @@ fn put_cuts(alloc: Global, out: &mut String, codec: Codec, bytes: &[u8]) -> Resu
     put_run(out, short_of(last.as_str()), count)
 }
 
-/// A case of a codec, and each shorter length where that is asked for; `None` where the words are
+/// A case of a codec, and each shorter length where that is asked for; `None` where the bytes are
 /// none.
 fn read_text(
     alloc: Global,
     names: &Names,
+    codec: Codec,
     words: &str,
     cuts: bool,
 ) -> Result<Option<String>, Memory> {
-    let Some((codec, rest)) = codec_of(words) else {
-        return Ok(None);
-    };
-    let Some(bytes) = names.joined(alloc, rest)? else {
+    let Some(bytes) = names.joined(alloc, words)? else {
         return Ok(None);
     };
     let mut text = text_of(alloc, codec, bytes.as_slice())?;
@@ -109,6 +107,27 @@ fn read_text(
     Ok(Some(text))
 }
 
+/// A case of a codec with each shorter length; `None` where the words are none.
+fn cuts_text(alloc: Global, names: &Names, words: &str) -> Result<Option<String>, Memory> {
+    match codec_of(words) {
+        Some((codec, rest)) => read_text(alloc, names, codec, rest, true),
+        None => Ok(None),
+    }
+}
+
+/// The numbers of a close, and what stands behind them.
+fn close_first(words: &str) -> Option<(Close, &str)> {
+    let (code, rest) = short_first(words)?;
+    let (class, rest) = short_first(rest)?;
+    let (method, rest) = short_first(rest)?;
+    let close = Close {
+        code,
+        class,
+        method,
+    };
+    Some((close, rest))
+}
+
 /// A close by its numbers and its text: of a channel, or of the connection.
 fn closing_text(
     alloc: Global,
@@ -116,44 +135,40 @@ fn closing_text(
     channel: Option<u16>,
     words: &str,
 ) -> Result<Option<String>, Memory> {
-    let Some((code, rest)) = number_first(words) else {
+    let Some((close, rest)) = close_first(words) else {
         return Ok(None);
     };
-    let Some((class, rest)) = number_first(rest) else {
-        return Ok(None);
-    };
-    let Some((method, rest)) = number_first(rest) else {
-        return Ok(None);
-    };
-    let Some(bytes) = names.joined(alloc, rest)? else {
-        return Ok(None);
-    };
-    match (
-        u16::try_from(code),
-        u16::try_from(class),
-        u16::try_from(method),
-    ) {
-        (Ok(code), Ok(class), Ok(method)) => match channel {
-            None => close_text(alloc, code, class, method, bytes.as_slice()),
-            Some(channel) => {
-                channel_close_text(alloc, channel, code, class, method, bytes.as_slice())
-            }
-        },
-        _ => Ok(None),
+    match names.joined(alloc, rest)? {
+        Some(bytes) => close_text(alloc, channel, close, bytes.as_slice()),
+        None => Ok(None),
     }
 }
 
 /// What is written on a channel: a close, or an answer.
 fn channel_text(alloc: Global, names: &Names, words: &str) -> Result<Option<String>, Memory> {
-    let Some((channel, rest)) = number_first(words) else {
-        return Ok(None);
-    };
-    let Ok(channel) = u16::try_from(channel) else {
+    let Some((channel, rest)) = short_first(words) else {
         return Ok(None);
     };
     match rest.strip_prefix("close ") {
         Some(rest) => closing_text(alloc, names, Some(channel), rest),
         None => answer_text(alloc, channel, rest),
+    }
+}
+
+/// Bytes after a number was written over four of them.
+fn set_text(
+    alloc: Global,
+    names: &Names,
+    at: usize,
+    words: &str,
+) -> Result<Option<String>, Memory> {
+    let Some((number, rest)) = number_first(words) else {
+        return Ok(None);
+    };
+    let number = u32::try_from(number).unwrap_or(u32::MAX);
+    match names.joined(alloc, rest)? {
+        Some(bytes) => changed_text(alloc, "set", at, number, bytes.as_slice()),
+        None => Ok(None),
     }
 }
 
@@ -164,62 +179,57 @@ fn numbered_text(
     verb: &str,
     words: &str,
 ) -> Result<Option<String>, Memory> {
-    let Some((number, mut rest)) = number_first(words) else {
+    let Some((number, rest)) = number_first(words) else {
         return Ok(None);
     };
-    let mut written = 0u64;
     if verb == "set" {
-        match number_first(rest) {
-            Some((second, behind)) => {
-                written = second;
-                rest = behind;
-            }
-            None => return Ok(None),
-        }
+        return set_text(alloc, names, number as usize, rest);
     }
-    let Some(bytes) = names.joined(alloc, rest)? else {
-        return Ok(None);
-    };
-    let number = number as usize;
-    let written = u32::try_from(written).unwrap_or(u32::MAX);
-    if verb == "room" {
-        return Ok(Some(reserved_text(alloc, number, bytes.as_slice())?));
-    }
-    match reader_text(alloc, verb, number, bytes.as_slice())? {
-        Some(text) => Ok(Some(text)),
-        None => changed_text(alloc, verb, number, written, bytes.as_slice()),
+    match names.joined(alloc, rest)? {
+        Some(bytes) => reader_text(alloc, verb, number as usize, bytes.as_slice()),
+        None => Ok(None),
     }
 }
 
-/// What a reply code is translated to.
+/// What a reply code is translated to; `None` where the words are none.
 fn coded_text(alloc: Global, verb: &str, words: &str) -> Result<Option<String>, Memory> {
     let Ok(code) = words.parse::<u16>() else {
         return Ok(None);
     };
-    let text = if verb == "code" {
-        code_text(alloc, code)?
-    } else {
-        error_text(alloc, code)?
-    };
-    Ok(Some(text))
+    match verb {
+        "code" => code_text(alloc, code),
+        _ => error_text(alloc, code),
+    }
+}
+
+/// The answer to a case that no codec reads; `None` where it is none.
+fn other_text(
+    alloc: Global,
+    names: &Names,
+    verb: &str,
+    words: &str,
+) -> Result<Option<String>, Memory> {
+    match verb {
+        "close-ok" => close_ok_text(alloc),
+        "kinds" => kinds_text(alloc),
+        "code" | "error" => coded_text(alloc, verb, words),
+        "condition" => condition_text(alloc, names, words),
+        _ => numbered_text(alloc, names, verb, words),
+    }
 }
 
 /// The answer to a case; `None` where it is none.
 fn case_text(alloc: Global, names: &Names, line: &str) -> Result<Option<String>, Memory> {
+    if let Some((codec, rest)) = codec_of(line) {
+        return read_text(alloc, names, codec, rest, false);
+    }
     let (verb, rest) = line.split_once(' ').unwrap_or((line, ""));
     match verb {
-        "header" | "frame" | "table" | "at" | "method" | "content" => {
-            read_text(alloc, names, line, false)
-        }
         "content-of" => frames_text(alloc, names, rest),
-        "cuts" => read_text(alloc, names, rest, true),
+        "cuts" => cuts_text(alloc, names, rest),
         "close" => closing_text(alloc, names, None, rest),
         "on" => channel_text(alloc, names, rest),
-        "close-ok" => Ok(Some(close_ok_text(alloc)?)),
-        "kinds" => Ok(Some(kinds_text(alloc)?)),
-        "code" | "error" => coded_text(alloc, verb, rest),
-        "condition" => condition_text(alloc, names, rest),
-        _ => numbered_text(alloc, names, verb, rest),
+        _ => other_text(alloc, names, verb, rest),
     }
 }
 

@@ -3,21 +3,24 @@
 use close_translate::{Scope, code_name, code_of, condition_of};
 use performatives_10::condition_name;
 use std::alloc::Global;
-use tests_support::{Names, put_text};
+use tests_support::{Names, Printed};
 use wire_base::Memory;
 
+/// A text that is known.
+fn known_text(alloc: Global, text: &[u8]) -> Result<Option<String>, Memory> {
+    let mut out = Printed::new(alloc);
+    out.put_text(text);
+    out.end_if(true)
+}
+
 /// The name of a reply code.
-pub fn code_text(alloc: Global, code: u16) -> Result<String, Memory> {
-    let mut out = String::new(alloc);
-    put_text(&mut out, code_name(code))?;
-    Ok(out)
+pub fn code_text(alloc: Global, code: u16) -> Result<Option<String>, Memory> {
+    known_text(alloc, code_name(code))
 }
 
 /// The error condition for a reply code.
-pub fn error_text(alloc: Global, code: u16) -> Result<String, Memory> {
-    let mut out = String::new(alloc);
-    put_text(&mut out, condition_name(condition_of(code)))?;
-    Ok(out)
+pub fn error_text(alloc: Global, code: u16) -> Result<Option<String>, Memory> {
+    known_text(alloc, condition_name(condition_of(code)))
 }
 
 fn scope_of(word: &str) -> Option<Scope> {
@@ -42,6 +45,7 @@ pub fn condition_text(alloc: Global, names: &Names, words: &str) -> Result<Optio
     } else {
         code_of(Some(name.as_slice()), scope)
     };
-    let text = format!(in alloc; "{code}")?;
-    Ok(Some(text))
+    let mut out = Printed::new(alloc);
+    out.show(code);
+    out.end_if(true)
 }

@@ -7,43 +7,53 @@ use content_091::{
     Assembly, Content, ContentFault, Header91, HeaderFault, Props, Step, put_header, read_header,
 };
 use std::alloc::Global;
-use tests_support::{Names, put_bytes};
+use tests_support::{Names, Printed};
 use wire_base::{At, ByteText, Memory};
 
 /// A short string that is there.
-fn put_short(out: &mut String, name: &str, text: &Option<ByteText>) -> Result<(), Memory> {
+fn put_short(out: &mut Printed, name: &str, text: &Option<ByteText>) {
     if let Some(text) = text {
-        write!(out, " {name} {text:?}")?;
+        out.put(name);
+        out.debug(text);
     }
-    Ok(())
 }
 
 /// A number that is there.
-fn put_number(out: &mut String, name: &str, n: Option<u64>) -> Result<(), Memory> {
+fn put_number(out: &mut Printed, name: &str, n: Option<u64>) {
     if let Some(n) = n {
-        write!(out, " {name} {n}")?;
+        out.put(name);
+        out.show(n);
     }
-    Ok(())
 }
 
 /// The properties that are there, each with its name.
-fn put_props(out: &mut String, props: &Props) -> Result<(), Memory> {
-    put_short(out, "content-type", &props.content_type)?;
-    put_short(out, "content-encoding", &props.content_encoding)?;
+fn put_props(out: &mut Printed, props: &Props) {
+    put_short(out, " content-type ", &props.content_type);
+    put_short(out, " content-encoding ", &props.content_encoding);
     if let Some(headers) = &props.headers {
-        write!(out, " headers {headers:?}")?;
+        out.put(" headers ");
+        out.debug(headers);
     }
-    put_number(out, "delivery-mode", props.delivery_mode.map(u64::from))?;
-    put_number(out, "priority", props.priority.map(u64::from))?;
-    put_short(out, "correlation-id", &props.correlation_id)?;
-    put_short(out, "reply-to", &props.reply_to)?;
-    put_short(out, "expiration", &props.expiration)?;
-    put_short(out, "message-id", &props.message_id)?;
-    put_number(out, "timestamp", props.timestamp)?;
-    put_short(out, "type", &props.kind)?;
-    put_short(out, "user-id", &props.user_id)?;
-    put_short(out, "app-id", &props.app_id)?;
-    put_short(out, "cluster-id", &props.cluster_id)
+    put_number(out, " delivery-mode ", props.delivery_mode.map(u64::from));
+    put_number(out, " priority ", props.priority.map(u64::from));
+    put_short(out, " correlation-id ", &props.correlation_id);
+    put_short(out, " reply-to ", &props.reply_to);
+    put_short(out, " expiration ", &props.expiration);
+    put_short(out, " message-id ", &props.message_id);
+    put_number(out, " timestamp ", props.timestamp);
+    put_short(out, " type ", &props.kind);
+    put_short(out, " user-id ", &props.user_id);
+    put_short(out, " app-id ", &props.app_id);
+    put_short(out, " cluster-id ", &props.cluster_id);
+}
+
+/// The size and the properties.
+fn header_text(alloc: Global, header: &Header91) -> Result<String, Memory> {
+    let mut out = Printed::new(alloc);
+    out.put("size ");
+    out.show(header.size);
+    put_props(&mut out, &header.props);
+    out.end()
 }
 
 /// The size, the properties, and what is written of the header.
@@ -55,9 +65,7 @@ fn put_notation(
 ) -> Result<(), Memory>
     requires { CanPut header.now }
 {
-    let size = header.size;
-    let mut text = format!(in alloc; "size {size}")?;
-    put_props(&mut text, &header.props)?;
+    let text = header_text(alloc, header)?;
     put_squeezed(out, text.as_str())?;
     let mut written = ByteText::empty(alloc);
     put_header(&mut written, header)?;
@@ -65,11 +73,9 @@ fn put_notation(
 }
 
 /// A fault and its place.
-fn put_fault(out: &mut String, found: At<HeaderFault>) -> Result<(), Memory> {
-    let fault = found.fault;
-    let at = found.at;
-    write!(out, "{fault:?} {at}")?;
-    Ok(())
+fn put_fault(out: &mut Printed, found: At<HeaderFault>) {
+    out.debug(found.fault);
+    out.put_number("", found.at);
 }
 
 /// A content header that was read of bytes.
@@ -83,9 +89,9 @@ fn notation_of(alloc: Global, header: &Header91, bytes: &[u8]) -> Result<String,
 
 /// A fault and its place, as a text of its own.
 fn fault_of(alloc: Global, found: At<HeaderFault>) -> Result<String, Memory> {
-    let mut out = String::new(alloc);
-    put_fault(&mut out, found)?;
-    Ok(out)
+    let mut out = Printed::new(alloc);
+    put_fault(&mut out, found);
+    out.end()
 }
 
 /// The content header that fills bytes, with what is written of it.
@@ -115,97 +121,90 @@ pub fn content_text(alloc: Global, bytes: &[u8]) -> Result<String, Memory> {
 }
 
 /// A whole content: the length of its body, its properties, and the bytes.
-pub fn put_content(out: &mut String, content: &Content) -> Result<(), Memory> {
-    let size = content.body.as_slice().len();
-    write!(out, "whole {size}")?;
-    put_props(out, &content.props)?;
-    put_bytes(out, content.body.as_slice())
+pub fn put_content(out: &mut Printed, content: &Content) {
+    out.put_number("whole", content.body.as_slice().len());
+    put_props(out, &content.props);
+    out.put_bytes(content.body.as_slice());
 }
 
 /// What a frame of a content came to.
-fn put_step(out: &mut String, read: &Result<Step, ContentFault>) -> Result<(), Memory> {
+fn put_step(out: &mut Printed, read: &Result<Step, ContentFault>) {
     match read {
-        Ok(Step::More) => out.push_str("more")?,
-        Ok(Step::Whole(content)) => put_content(out, content)?,
+        Ok(Step::More) => out.put("more"),
+        Ok(Step::Whole(content)) => put_content(out, content),
         Err(ContentFault::Header(found)) => {
-            out.push_str("Header ")?;
-            put_fault(out, *found)?;
+            out.put("Header ");
+            put_fault(out, *found);
         }
-        Err(fault) => write!(out, "{fault:?}")?,
+        Err(fault) => out.debug(fault),
     }
-    Ok(())
 }
 
 /// What a frame of a content came to, unless memory ran out.
-fn put_given(
-    out: &mut String,
-    given: Result<Result<Step, ContentFault>, Memory>,
-) -> Result<(), Memory> {
-    let read = given?;
-    let put = put_step(out, &read);
-    drop(read);
-    put
+fn put_given(out: &mut Printed, given: Result<Result<Step, ContentFault>, Memory>) {
+    if let Some(read) = out.take(given) {
+        put_step(out, &read);
+    }
 }
 
 /// Gives a frame to a content; false where there is no such kind of frame.
 fn put_frame(
     alloc: Global,
-    out: &mut String,
+    out: &mut Printed,
     assembly: &mut Assembly,
     kind: &str,
     bytes: &[u8],
-) -> Result<bool, Memory> {
+) -> bool {
     if !assembly.is_open() {
-        out.push_str("no content")?;
-        return Ok(true);
+        out.put("no content");
+        return true;
     }
     match kind {
-        "header" => put_given(out, assembly.header(alloc, bytes))?,
-        "body" => put_given(out, assembly.body(bytes))?,
-        _ => return Ok(false),
+        "header" => put_given(out, assembly.header(alloc, bytes)),
+        "body" => put_given(out, assembly.body(bytes)),
+        _ => return false,
     }
-    Ok(true)
+    true
 }
 
 /// The same by its words; false where they are no frame.
 fn put_told(
     alloc: Global,
-    out: &mut String,
+    out: &mut Printed,
     names: &Names,
     assembly: &mut Assembly,
     words: &str,
-) -> Result<bool, Memory> {
+) -> bool {
     let (kind, rest) = words.split_once(' ').unwrap_or((words, ""));
-    match names.joined(alloc, rest)? {
+    match out.find(names.joined(alloc, rest)) {
         Some(bytes) => put_frame(alloc, out, assembly, kind, bytes.as_slice()),
-        None => Ok(false),
+        None => false,
     }
 }
 
 /// Gives frames to a content, one after another; false where the words are none.
 fn put_frames(
     alloc: Global,
-    out: &mut String,
+    out: &mut Printed,
     names: &Names,
     assembly: &mut Assembly,
     words: &str,
-) -> Result<bool, Memory> {
+) -> bool {
     for frame in words.split(" / ") {
-        if !out.is_empty() {
-            out.push_str(", ")?;
+        if !out.as_str().is_empty() {
+            out.put(", ");
         }
-        if !put_told(alloc, out, names, assembly, frame)? {
-            return Ok(false);
+        if !put_told(alloc, out, names, assembly, frame) {
+            return false;
         }
     }
-    Ok(true)
+    true
 }
 
 /// The frames of a content; `None` where the words are none.
 pub fn frames_text(alloc: Global, names: &Names, words: &str) -> Result<Option<String>, Memory> {
-    let mut out = String::new(alloc);
+    let mut out = Printed::new(alloc);
     let mut assembly = Assembly::begin();
-    let put = put_frames(alloc, &mut out, names, &mut assembly, words);
-    drop(assembly);
-    Ok(if put? { Some(out) } else { None })
+    let is_case = put_frames(alloc, &mut out, names, &mut assembly, words);
+    out.end_if(is_case)
 }

@@ -6,7 +6,7 @@ use close_translate::Scope;
 use frames_091::{Frame91, Kind91, scan_frame};
 use machine_091::{Conn91, Refusal, Unit91, Want91};
 use std::alloc::Global;
-use tests_support::{Names, put_bytes};
+use tests_support::{Names, Printed};
 use wire_base::{ByteText, Memory, Scan};
 
 /// A connection to a virtual host, and the lines of the units and the other events that came since
@@ -106,74 +106,86 @@ fn unit_of(alloc: Global, names: &Names, words: &str) -> Result<Option<Unit91>, 
 }
 
 /// A number behind a word.
-fn put_number(out: &mut String, word: &str, number: u16) -> Result<(), Memory> {
-    write!(out, "{word} {number}")?;
-    Ok(())
+fn put_number(out: &mut Printed, word: &str, number: u16) {
+    out.put(word);
+    out.put(" ");
+    out.show(number);
 }
 
 /// A refusal by its code, its channel where one closes, and the ids.
-fn put_refusal(out: &mut String, refusal: Refusal) -> Result<(), Memory> {
-    put_number(out, "Refuse", refusal.code)?;
+fn put_refusal(out: &mut Printed, refusal: Refusal) {
+    put_number(out, "Refuse", refusal.code);
     match refusal.scope {
         Scope::Connection => {}
-        Scope::Channel => put_number(out, " channel", refusal.channel)?,
+        Scope::Channel => put_number(out, " channel", refusal.channel),
     }
-    put_number(out, "", refusal.class)?;
-    put_number(out, "", refusal.method)
+    put_number(out, "", refusal.class);
+    put_number(out, "", refusal.method);
 }
 
 /// What a unit wants.
-fn put_want(out: &mut String, want: &Want91) -> Result<(), Memory> {
+fn put_want(out: &mut Printed, want: &Want91) {
     match want {
         Want91::Login(mechanism, response) => {
-            out.push_str("Login")?;
-            put_bytes(out, mechanism.as_slice())?;
-            out.push_str(",")?;
-            put_bytes(out, response.as_slice())?;
+            out.put("Login");
+            out.put_bytes(mechanism.as_slice());
+            out.put(",");
+            out.put_bytes(response.as_slice());
         }
         Want91::Publish(channel, method, content) => {
-            write!(out, "Publish({channel}, {method:?}), ")?;
-            put_content(out, content)?;
+            out.put("Publish(");
+            out.show(*channel);
+            out.put(", ");
+            out.debug(method);
+            out.put("), ");
+            put_content(out, content);
         }
-        Want91::Refuse(refusal) => put_refusal(out, *refusal)?,
-        other => write!(out, "{other:?}")?,
+        Want91::Refuse(refusal) => put_refusal(out, *refusal),
+        other => out.debug(other),
     }
-    Ok(())
 }
 
 /// The channels that are open.
-fn put_channels(out: &mut String, conn: &Conn91) -> Result<(), Memory> {
+fn put_channels(out: &mut Printed, conn: &Conn91) {
     for channel in 0..=300u16 {
         if conn.is_open(channel) {
-            write!(out, ", {channel} is open")?;
+            put_number(out, ",", channel);
+            out.put(" is open");
         }
     }
-    Ok(())
+}
+
+/// Words for what holds.
+fn put_held(out: &mut Printed, holds: bool, words: &str) {
+    if holds {
+        out.put(words);
+    }
+}
+
+/// The limits (of frames, of channels, and the interval of heartbeats), and what else holds.
+fn put_limits(out: &mut Printed, conn: &Conn91) {
+    out.put(", limits ");
+    out.show(conn.frame_max());
+    put_number(out, "", conn.channel_max());
+    put_number(out, "", conn.heartbeat());
+    put_held(out, conn.is_asked(), ", asked");
+    put_held(out, conn.is_opening(), ", opening");
+    put_held(out, conn.is_closing(), ", closing");
+    put_held(out, conn.is_over(), ", over");
 }
 
 /// What can be asked of a connection: its phase, what its stream is and what is awaited of it, its
-/// limits (of frames, of channels, and the interval of heartbeats), and what else holds.
+/// limits, and what else holds.
 fn state_text(alloc: Global, conn: &Conn91) -> Result<String, Memory> {
-    let phase = conn.phase();
-    let stream = conn.stream();
-    let awaits = conn.awaits();
-    let mut out = format!(in alloc; "{phase:?}, stream {stream:?}, awaits {awaits:?}")?;
-    let frames = conn.frame_max();
-    let channels = conn.channel_max();
-    let seconds = conn.heartbeat();
-    write!(out, ", limits {frames} {channels} {seconds}")?;
-    for (holds, words) in [
-        (conn.is_asked(), ", asked"),
-        (conn.is_opening(), ", opening"),
-        (conn.is_closing(), ", closing"),
-        (conn.is_over(), ", over"),
-    ] {
-        if holds {
-            out.push_str(words)?;
-        }
-    }
-    put_channels(&mut out, conn)?;
-    Ok(out)
+    let mut out = Printed::new(alloc);
+    out.debug(conn.phase());
+    out.put(", stream ");
+    out.debug(conn.stream());
+    out.put(", awaits ");
+    out.debug(conn.awaits());
+    put_limits(&mut out, conn);
+    put_channels(&mut out, conn);
+    out.end()
 }
 
 /// The state, where it is another one than before.
@@ -190,9 +202,9 @@ fn put_state(alloc: Global, out: &mut String, conn: &Conn91, before: &str) -> Re
 
 /// What a unit wants, in words.
 fn want_text(alloc: Global, want: &Want91) -> Result<String, Memory> {
-    let mut out = String::new(alloc);
-    put_want(&mut out, want)?;
-    Ok(out)
+    let mut out = Printed::new(alloc);
+    put_want(&mut out, want);
+    out.end()
 }
 
 /// Takes a unit, and answers what it wants.

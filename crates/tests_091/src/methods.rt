@@ -9,7 +9,7 @@ use methods_091::{
     put_nack, put_select_ok, read_method,
 };
 use std::alloc::Global;
-use tests_support::{part, put_bytes};
+use tests_support::{Printed, part};
 use wire_base::{At, ByteText, Memory};
 
 /// The ids of a method, the method, and what is written of it.
@@ -74,55 +74,52 @@ pub fn method_text(alloc: Global, bytes: &[u8]) -> Result<String, Memory> {
 }
 
 /// The bytes that were written over others, and whether those behind them stayed.
-fn closed_text(alloc: Global, out: &[u8], size: usize) -> Result<String, Memory> {
-    let mut text = String::new(alloc);
-    put_bytes(&mut text, part(out, 0, size))?;
-    if !part(out, size, out.len()).iter().all(|byte| *byte == 0x5A) {
-        text.push_str(" | more was written")?;
+fn closed_text(alloc: Global, out: &[u8], size: usize) -> Result<Option<String>, Memory> {
+    let mut text = Printed::new(alloc);
+    text.put_bytes(part(out, 0, size));
+    if part(out, size, 512) != part(&[0x5A; 512], size, 512) {
+        text.put(" | more was written");
     }
-    Ok(text)
+    text.end_if(true)
 }
 
-/// connection.close, written without memory; `None` where the text is too long.
+/// The numbers of a close.
+#[derive(Clone, Copy)]
+pub struct Close {
+    pub code: u16,
+    pub class: u16,
+    pub method: u16,
+}
+
+/// connection.close or a channel's close, written without memory; `None` where the text is too
+/// long.
 pub fn close_text(
     alloc: Global,
-    code: u16,
-    class: u16,
-    method: u16,
+    channel: Option<u16>,
+    close: Close,
     words: &[u8],
 ) -> Result<Option<String>, Memory> {
+    let Close {
+        code,
+        class,
+        method,
+    } = close;
     if words.len() > 255 {
         return Ok(None);
     }
     let mut out = [0x5A; 512];
-    let size = put_close(&mut out, code, words, class, method);
-    let text = closed_text(alloc, &out, size)?;
-    Ok(Some(text))
-}
-
-/// connection.close-ok, written without memory.
-pub fn close_ok_text(alloc: Global) -> Result<String, Memory> {
-    let mut out = [0x5A; 512];
-    let size = put_close_ok(&mut out);
+    let size = match channel {
+        None => put_close(&mut out, code, words, class, method),
+        Some(channel) => put_channel_close(&mut out, channel, code, words, class, method),
+    };
     closed_text(alloc, &out, size)
 }
 
-/// channel.close, written without memory; `None` where the text is too long.
-pub fn channel_close_text(
-    alloc: Global,
-    channel: u16,
-    code: u16,
-    class: u16,
-    method: u16,
-    words: &[u8],
-) -> Result<Option<String>, Memory> {
-    if words.len() > 255 {
-        return Ok(None);
-    }
+/// connection.close-ok, written without memory.
+pub fn close_ok_text(alloc: Global) -> Result<Option<String>, Memory> {
     let mut out = [0x5A; 512];
-    let size = put_channel_close(&mut out, channel, code, words, class, method);
-    let text = closed_text(alloc, &out, size)?;
-    Ok(Some(text))
+    let size = put_close_ok(&mut out);
+    closed_text(alloc, &out, size)
 }
 
 /// Writes a basic.ack or a basic.nack by its delivery tag; `None` where the words are none.
@@ -156,9 +153,8 @@ fn answer_len(out: &mut [u8; 512], channel: u16, words: &str) -> Option<usize> {
 /// An answer on a channel, written without memory; `None` where the words are none.
 pub fn answer_text(alloc: Global, channel: u16, words: &str) -> Result<Option<String>, Memory> {
     let mut out = [0x5A; 512];
-    let Some(size) = answer_len(&mut out, channel, words) else {
-        return Ok(None);
-    };
-    let text = closed_text(alloc, &out, size)?;
-    Ok(Some(text))
+    match answer_len(&mut out, channel, words) {
+        Some(size) => closed_text(alloc, &out, size),
+        None => Ok(None),
+    }
 }

@@ -1,30 +1,19 @@
 //! Cases of the readers of numbers and texts, and of bytes that are changed in place.
 
 use std::alloc::Global;
-use tests_support::{put_bytes, put_text};
+use tests_support::Printed;
 use wire_base::{
     ByteText, Memory, ReservedText, Stop, long_in, place, short_in, u8_in, u16_in, u32_in, u64_in,
 };
 
-/// What a reader of numbers takes.
-fn number_in(reader: &str, end: usize, bytes: &[u8]) -> Option<Result<(u64, usize), Stop<usize>>> {
-    let read = match reader {
-        "u8" => u8_in(end, bytes).map(|(n, rest)| (u64::from(n), rest.len())),
-        "u16" => u16_in(end, bytes).map(|(n, rest)| (u64::from(n), rest.len())),
-        "u32" => u32_in(end, bytes).map(|(n, rest)| (u64::from(n), rest.len())),
-        "u64" => u64_in(end, bytes).map(|(n, rest)| (n, rest.len())),
-        _ => return None,
-    };
-    Some(read)
-}
-
 /// A fault and its place.
-fn put_stop(out: &mut String, stop: Stop<usize>) -> Result<(), Memory> {
+fn stop_text(alloc: Global, stop: Stop<usize>) -> Result<Option<String>, Memory> {
     match stop {
         Stop::Memory => Err(Memory),
         Stop::Fault(at) => {
-            write!(out, "Fault {at}")?;
-            Ok(())
+            let mut out = Printed::new(alloc);
+            out.put_number("Fault", at);
+            out.end_if(true)
         }
     }
 }
@@ -33,54 +22,73 @@ fn put_stop(out: &mut String, stop: Stop<usize>) -> Result<(), Memory> {
 fn number_text(
     alloc: Global,
     end: usize,
-    bytes: &[u8],
-    read: Result<(u64, usize), Stop<usize>>,
-) -> Result<String, Memory> {
-    let mut out = String::new(alloc);
-    match read {
-        Ok((number, left)) => {
-            let rest = bytes.get(bytes.len().saturating_sub(left)..).unwrap_or(&[]);
-            let at = place(end, rest);
-            write!(out, "{number} | {at}")?;
-        }
-        Err(stop) => put_stop(&mut out, stop)?,
-    }
-    Ok(out)
+    number: u64,
+    rest: &[u8],
+) -> Result<Option<String>, Memory> {
+    let mut out = Printed::new(alloc);
+    out.show(number);
+    out.put_number(" |", place(end, rest));
+    out.end_if(true)
 }
 
-/// What is printed of a text and the bytes behind it.
-fn text_text(alloc: Global, read: Result<(&[u8], &[u8]), Stop<usize>>) -> Result<String, Memory> {
-    let mut out = String::new(alloc);
-    match read {
-        Ok((text, rest)) => {
-            put_text(&mut out, text)?;
-            out.push_str(" |")?;
-            put_bytes(&mut out, rest)?;
-        }
-        Err(stop) => put_stop(&mut out, stop)?,
-    }
-    Ok(out)
+/// A text, and the bytes behind it.
+fn text_text(alloc: Global, text: &[u8], rest: &[u8]) -> Result<Option<String>, Memory> {
+    let mut out = Printed::new(alloc);
+    out.put_text(text);
+    out.put(" |");
+    out.put_bytes(rest);
+    out.end_if(true)
 }
 
 /// What a reader takes from the front of bytes that end at an offset; `None` where there is no such
 /// reader.
+fn wide_text(
+    alloc: Global,
+    reader: &str,
+    end: usize,
+    bytes: &[u8],
+) -> Result<Option<String>, Memory> {
+    match reader {
+        "u64" => match u64_in(end, bytes) {
+            Ok((number, rest)) => number_text(alloc, end, number, rest),
+            Err(stop) => stop_text(alloc, stop),
+        },
+        "short" => match short_in(end, bytes) {
+            Ok((text, rest)) => text_text(alloc, text, rest),
+            Err(stop) => stop_text(alloc, stop),
+        },
+        "long" => match long_in(end, bytes) {
+            Ok((text, rest)) => text_text(alloc, text, rest),
+            Err(stop) => stop_text(alloc, stop),
+        },
+        _ => changed_text(alloc, reader, end, 0, bytes),
+    }
+}
+
+/// What a reader takes from the front of bytes that end at an offset, or what a change with this
+/// number makes of them; `None` where there is neither.
 pub fn reader_text(
     alloc: Global,
     reader: &str,
     end: usize,
     bytes: &[u8],
 ) -> Result<Option<String>, Memory> {
-    if let Some(read) = number_in(reader, end, bytes) {
-        let text = number_text(alloc, end, bytes, read)?;
-        return Ok(Some(text));
+    match reader {
+        "u8" => match u8_in(end, bytes) {
+            Ok((number, rest)) => number_text(alloc, end, u64::from(number), rest),
+            Err(stop) => stop_text(alloc, stop),
+        },
+        "u16" => match u16_in(end, bytes) {
+            Ok((number, rest)) => number_text(alloc, end, u64::from(number), rest),
+            Err(stop) => stop_text(alloc, stop),
+        },
+        "u32" => match u32_in(end, bytes) {
+            Ok((number, rest)) => number_text(alloc, end, u64::from(number), rest),
+            Err(stop) => stop_text(alloc, stop),
+        },
+        "room" => reserved_text(alloc, end, bytes),
+        _ => wide_text(alloc, reader, end, bytes),
     }
-    let read = match reader {
-        "short" => short_in(end, bytes),
-        "long" => long_in(end, bytes),
-        _ => return Ok(None),
-    };
-    let text = text_text(alloc, read)?;
-    Ok(Some(text))
 }
 
 /// Bytes after a number was written over four of them, or after so many were kept or dropped at
@@ -99,25 +107,25 @@ pub fn changed_text(
         "discard" if at <= bytes.len() => text.discard(at),
         _ => return Ok(None),
     }
-    let mut out = String::new(alloc);
-    put_bytes(&mut out, text.as_slice())?;
-    Ok(Some(out))
+    let mut out = Printed::new(alloc);
+    out.put_bytes(text.as_slice());
+    out.end_if(true)
 }
 
 /// Bytes in reserved room, as long as they fit, how many may still be added, and what stands after
 /// the first was dropped.
-pub fn reserved_text(alloc: Global, room: usize, bytes: &[u8]) -> Result<String, Memory> {
+fn reserved_text(alloc: Global, room: usize, bytes: &[u8]) -> Result<Option<String>, Memory> {
     let mut text = ReservedText::with_room(alloc, room)?;
     if bytes.len() <= text.left() {
         text.append_within(bytes);
     }
-    let mut out = String::new(alloc);
-    put_bytes(&mut out, text.as_slice())?;
-    let left = text.left();
-    write!(out, " | {left} |")?;
+    let mut out = Printed::new(alloc);
+    out.put_bytes(text.as_slice());
+    out.put_number(" |", text.left());
+    out.put(" |");
     if !text.as_slice().is_empty() {
         text.discard(1);
     }
-    put_bytes(&mut out, text.as_slice())?;
-    Ok(out)
+    out.put_bytes(text.as_slice());
+    out.end_if(true)
 }

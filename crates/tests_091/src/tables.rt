@@ -5,7 +5,7 @@ ghost use Rattle.tables_091.specs.Writing.{HasSpelling};
 use crate::words::{put_other, put_squeezed, put_written};
 use std::alloc::Global;
 use tables_091::{Table, put_table, read_table};
-use tests_support::{part, put_bytes};
+use tests_support::{Printed, part};
 use wire_base::{ByteText, Memory};
 
 /// A table that was read of these bytes, and its end; what is written of it.
@@ -65,13 +65,20 @@ fn is_unknown(alloc: Global, kind: u8) -> Result<bool, Memory> {
     Ok(text.as_str() == "Syntax 6")
 }
 
-/// The type bytes that are known.
-pub fn kinds_text(alloc: Global) -> Result<String, Memory> {
-    let mut out = String::from_str(alloc, "kinds")?;
+/// Adds the type bytes that are known.
+fn put_kinds(alloc: Global, out: &mut Printed) -> Result<(), Memory> {
     for kind in 0..=255u8 {
         if !is_unknown(alloc, kind)? {
-            put_bytes(&mut out, &[kind])?;
+            out.put_bytes(&[kind]);
         }
     }
-    Ok(out)
+    Ok(())
+}
+
+/// The type bytes that are known.
+pub fn kinds_text(alloc: Global) -> Result<Option<String>, Memory> {
+    let mut out = Printed::new(alloc);
+    out.put("kinds");
+    put_kinds(alloc, &mut out)?;
+    out.end_if(true)
 }

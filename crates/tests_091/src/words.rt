@@ -11,6 +11,12 @@ pub fn number_first(text: &str) -> Option<(u64, &str)> {
     Some((number, rest))
 }
 
+/// The number of 16 bits before the first blank, and the text behind it.
+pub fn short_first(text: &str) -> Option<(u16, &str)> {
+    let (number, rest) = number_first(text)?;
+    Some((u16::try_from(number).ok()?, rest))
+}
+
 /// What is written: `=` where it is what was read.
 pub fn put_written(out: &mut String, written: &[u8], read: &[u8]) -> Result<(), Memory> {
     if written == read {
