@@ -10,8 +10,6 @@
 #![tactic(auto)]
 
 mod cases;
-#[cfg(test)]
-mod replays;
 
 use cases::CaptureCases;
 use gate_capture::{capture_laws, replay_laws};
