@@ -2,11 +2,11 @@
 
 use crate::checks::{put_unrecorded, put_unreported};
 use crate::runs::{play, play_as_told};
-use crate::scenario::{Scenario, Sent};
+use crate::scenario::{Numbers, Scenario, Sent};
 use crate::telling::{put_counts, put_listing};
 use gate_outside::{End, Room};
 use std::alloc::Global;
-use tests_support::{Cases, bytes_of};
+use tests_support::{Cases, Printed, bytes_of};
 use wire_base::Memory;
 
 /// The scenario that the next play ends.
@@ -24,144 +24,173 @@ impl TurnCases {
 }
 
 /// Sets a number of the scenario; whether there is such a one.
-fn set_number(scenario: &mut Scenario, name: &str, number: u32) -> Result<bool, Memory> {
+fn set_number(numbers: &mut Numbers, name: &str, number: u32) -> bool {
     match name {
-        "pairs" => scenario.numbers.pairs = number,
-        "idles" => scenario.numbers.idles = u64::from(number),
-        "step" => scenario.numbers.step = u64::from(number),
-        "limit" => scenario.numbers.limit = number,
-        "turns" => scenario.numbers.turns = u64::from(number),
-        "refused" => scenario.numbers.refused = Some(number),
-        "out" => scenario.numbers.out = Some(u64::from(number)),
-        "kept" => scenario.numbers.kept = Some(number as usize),
-        "fault" => scenario.faults.push(u64::from(number))?,
-        _ => return Ok(false),
+        "pairs" => numbers.pairs = number,
+        "idles" => numbers.idles = u64::from(number),
+        "step" => numbers.step = u64::from(number),
+        "limit" => numbers.limit = number,
+        "turns" => numbers.turns = u64::from(number),
+        "refused" => numbers.refused = Some(number),
+        "out" => numbers.out = Some(u64::from(number)),
+        "kept" => numbers.kept = Some(number as usize),
+        _ => return false,
     }
-    Ok(true)
-}
-
-/// Adds what is sent at an end; whether the bytes are told rightly.
-fn add_sent(
-    alloc: Global,
-    scenario: &mut Scenario,
-    pair: u32,
-    end: End,
-    after: u64,
-    ends: bool,
-    text: &str,
-) -> Result<bool, Memory> {
-    let Some(bytes) = bytes_of(alloc, text)? else {
-        return Ok(false);
-    };
-    scenario.sent.push(Sent {
-        pair,
-        end,
-        after,
-        bytes,
-        ends,
-    })?;
-    Ok(true)
-}
-
-/// Adds what is sent at an end once so much was taken there.
-fn add_waiting(
-    alloc: Global,
-    scenario: &mut Scenario,
-    pair: u32,
-    end: End,
-    text: &str,
-) -> Result<bool, Memory> {
-    let Some((after, text)) = text.split_once(' ') else {
-        return Ok(false);
-    };
-    let Ok(after) = after.parse::<u64>() else {
-        return Ok(false);
-    };
-    add_sent(alloc, scenario, pair, end, after, false, text)
-}
-
-/// Adds how much the next writes to an end take; whether these are numbers.
-fn add_taken(scenario: &mut Scenario, pair: u32, end: End, text: &str) -> Result<bool, Memory> {
-    for word in text.split(' ') {
-        let Ok(most) = word.parse::<u32>() else {
-            return Ok(false);
-        };
-        scenario.taken.push(Room { pair, end, most })?;
-    }
-    Ok(true)
+    true
 }
 
 /// What an end of a pair does.
-fn add_deed(
-    alloc: Global,
-    scenario: &mut Scenario,
+#[derive(Clone, Copy)]
+struct Deed<'a> {
     pair: u32,
     end: End,
-    deed: &str,
-) -> Result<bool, Memory> {
-    let (verb, text) = deed.split_once(' ').unwrap_or((deed, ""));
-    match verb {
-        "sends" => add_sent(alloc, scenario, pair, end, 0, false, text),
-        "ends" => add_sent(alloc, scenario, pair, end, 0, true, text),
-        "after" => add_waiting(alloc, scenario, pair, end, text),
-        "takes" => add_taken(scenario, pair, end, text),
-        _ => Ok(false),
+    text: &'a str,
+}
+
+/// Adds an item to a list.
+fn add<T: Drop>(out: &mut Printed, list: &mut Vec<T>, item: T) {
+    if list.push(item).is_err() {
+        out.take(Err::<(), Memory>(Memory));
     }
 }
 
-/// A line that prints nothing; whether it is one.
-fn take_line(alloc: Global, scenario: &mut Scenario, line: &str) -> Result<bool, Memory> {
-    let Some((first, rest)) = line.split_once(' ') else {
-        return Ok(false);
-    };
-    let (whose, deed) = rest.split_once(' ').unwrap_or((rest, ""));
-    if let Ok(pair) = first.parse::<u32>() {
-        return match whose {
-            "client" => add_deed(alloc, scenario, pair, End::Client, deed),
-            "up" => add_deed(alloc, scenario, pair, End::Up, deed),
-            _ => Ok(false),
-        };
+/// Adds what is sent at an end once so much was taken there; whether the bytes are told rightly.
+fn add_sent(
+    out: &mut Printed,
+    alloc: Global,
+    sent: &mut Vec<Sent>,
+    deed: &Deed,
+    after: u64,
+    ends: bool,
+    text: &str,
+) -> bool {
+    match out.find(bytes_of(alloc, text)) {
+        Some(bytes) => {
+            let piece = Sent {
+                pair: deed.pair,
+                end: deed.end,
+                after,
+                bytes,
+                ends,
+            };
+            add(out, sent, piece);
+            true
+        }
+        None => false,
     }
-    match rest.parse::<u32>() {
-        Ok(number) => set_number(scenario, first, number),
-        Err(_) => Ok(false),
+}
+
+/// The number and the text behind it.
+fn numbered(text: &str) -> Option<(u64, &str)> {
+    let (number, rest) = text.split_once(' ')?;
+    Some((number.parse().ok()?, rest))
+}
+
+/// Adds how much the next writes to an end take; whether these are numbers.
+fn add_taken(out: &mut Printed, taken: &mut Vec<Room>, pair: u32, end: End, text: &str) -> bool {
+    for word in text.split(' ') {
+        let Ok(most) = word.parse::<u32>() else {
+            return false;
+        };
+        add(out, taken, Room { pair, end, most });
+    }
+    true
+}
+
+/// Adds what an end of a pair does; whether it is anything.
+fn add_deed(out: &mut Printed, alloc: Global, scenario: &mut Scenario, deed: &Deed) -> bool {
+    let (verb, text) = deed.text.split_once(' ').unwrap_or((deed.text, ""));
+    match verb {
+        "sends" => add_sent(out, alloc, &mut scenario.sent, deed, 0, false, text),
+        "ends" => add_sent(out, alloc, &mut scenario.sent, deed, 0, true, text),
+        "after" => match numbered(text) {
+            Some((after, text)) => {
+                add_sent(out, alloc, &mut scenario.sent, deed, after, false, text)
+            }
+            None => false,
+        },
+        "takes" => add_taken(out, &mut scenario.taken, deed.pair, deed.end, text),
+        _ => false,
+    }
+}
+
+/// The end of a pair that does something.
+fn end_of(whose: &str) -> Option<End> {
+    match whose {
+        "client" => Some(End::Client),
+        "up" => Some(End::Up),
+        _ => None,
+    }
+}
+
+/// What a line says that an end of a pair does, such as `0 client sends 05`.
+fn deed_of(line: &str) -> Option<Deed> {
+    let (pair, rest) = line.split_once(' ')?;
+    let (whose, text) = rest.split_once(' ').unwrap_or((rest, ""));
+    Some(Deed {
+        pair: pair.parse().ok()?,
+        end: end_of(whose)?,
+        text,
+    })
+}
+
+/// The number that a line sets, such as `pairs 2`.
+fn number_of(line: &str) -> Option<(&str, u32)> {
+    let (name, number) = line.split_once(' ')?;
+    Some((name, number.parse().ok()?))
+}
+
+/// A line that prints nothing; whether it is one.
+fn take_line(out: &mut Printed, alloc: Global, scenario: &mut Scenario, line: &str) -> bool {
+    if let Some(deed) = deed_of(line) {
+        return add_deed(out, alloc, scenario, &deed);
+    }
+    match number_of(line) {
+        Some(("fault", call)) => {
+            add(out, &mut scenario.faults, u64::from(call));
+            true
+        }
+        Some((name, number)) => set_number(&mut scenario.numbers, name, number),
+        None => false,
     }
 }
 
 /// A play whose sinks fail as the scenario says.
-fn put_list(alloc: Global, scenario: &Scenario, out: &mut String) -> Result<(), Memory> {
-    let run = play_as_told(alloc, scenario)?;
-    put_listing(&run, out)
+fn put_list(out: &mut Printed, alloc: Global, scenario: &Scenario) {
+    if let Some(run) = out.take(play_as_told(alloc, scenario)) {
+        put_listing(out, &run);
+        drop(run);
+    }
 }
 
 /// The counts of a play in which neither sink fails.
-fn put_counted(alloc: Global, scenario: &Scenario, out: &mut String) -> Result<(), Memory> {
-    let run = play(alloc, scenario)?;
-    put_counts(&run, out)
+fn put_counted(out: &mut Printed, alloc: Global, scenario: &Scenario) {
+    if let Some(run) = out.take(play(alloc, scenario)) {
+        put_counts(out, &run);
+        drop(run);
+    }
 }
 
-/// A line that plays the scenario; `None` where it is none.
-fn play_line(alloc: Global, scenario: &Scenario, line: &str) -> Result<Option<String>, Memory> {
-    let mut out = String::new(alloc);
+/// A line that plays the scenario; whether it is one.
+fn play_line(out: &mut Printed, alloc: Global, scenario: &Scenario, line: &str) -> bool {
     match line {
-        "list" => put_list(alloc, scenario, &mut out)?,
-        "counts" => put_counted(alloc, scenario, &mut out)?,
-        "unrecorded" => put_unrecorded(alloc, scenario, &mut out)?,
-        "unreported" => put_unreported(alloc, scenario, &mut out)?,
-        _ => return Ok(None),
+        "list" => put_list(out, alloc, scenario),
+        "counts" => put_counted(out, alloc, scenario),
+        "unrecorded" => put_unrecorded(out, alloc, scenario),
+        "unreported" => put_unreported(out, alloc, scenario),
+        _ => return false,
     }
-    Ok(Some(out))
+    true
 }
 
 impl Cases for TurnCases {
     fn answer(&mut self, alloc: Global, line: &str) -> Result<Option<String>, Memory> {
-        if let Some(text) = play_line(alloc, &self.scenario, line)? {
+        let mut out = Printed::new(alloc);
+        if play_line(&mut out, alloc, &self.scenario, line) {
             self.scenario = Scenario::new(alloc);
-            return Ok(Some(text));
+            return out.end_if(true);
         }
-        if take_line(alloc, &mut self.scenario, line)? {
-            return Ok(Some(String::new(alloc)));
-        }
-        Ok(None)
+        let is_case = take_line(&mut out, alloc, &mut self.scenario, line);
+        out.end_if(is_case)
     }
 }

@@ -1,78 +1,54 @@
 //! Plays in which a sink fails: what must hold of each, whichever write or call it is.
 
-use crate::runs::{PairEnd, Run, SINK_ROOM, play, play_with, shut_by};
+use crate::runs::{Run, SINK_ROOM, count_open, front_text, play, play_with, record_size, shut_by};
 use crate::scenario::Scenario;
-use crate::telling::put_call;
-use gate_outside::{End, LogEntry};
+use gate_outside::LogEntry;
 use gate_runs::{Outside, Served};
 use std::alloc::Global;
-use tests_support::part;
+use tests_support::{Printed, part};
 use wire_base::Memory;
-
-/// A call as text; empty where there is none.
-fn call_text(alloc: Global, run: &Run, at: usize) -> Result<String, Memory> {
-    let mut text = String::new(alloc);
-    if let Some(entry) = run.calls.get(at) {
-        put_call(&mut text, entry)?;
-    }
-    Ok(text)
-}
 
 /// The first calls of both runs are the same, with their answers.
 fn begins_as(alloc: Global, run: &Run, plain: &Run, count: usize) -> Result<bool, Memory> {
-    for k in 0..count {
-        let (ours, theirs) = (call_text(alloc, run, k)?, call_text(alloc, plain, k)?);
-        if ours.as_str() != theirs.as_str() || ours.is_empty() {
-            return Ok(false);
-        }
-    }
-    Ok(true)
+    let ours = front_text(alloc, run, count)?;
+    let theirs = front_text(alloc, plain, count)?;
+    let are_there = run.calls.len() >= count && plain.calls.len() >= count;
+    Ok(are_there && ours.as_str() == theirs.as_str())
 }
 
-/// One end is to be shut before another: in rising number, and upstream first.
-fn comes_before(first: PairEnd, second: PairEnd) -> bool {
-    first.pair < second.pair || first.pair == second.pair && first.end == End::Up
-}
-
-/// Behind the first calls only ends are shut, in order, and then none is open.
-fn only_shuts_follow(alloc: Global, run: &Run, count: usize) -> Result<bool, Memory> {
-    let mut last: Option<PairEnd> = None;
+/// Behind the first calls only ends are shut, in order.
+fn are_shuts(run: &Run, count: usize) -> bool {
+    let mut least = 0u64;
     for k in count..run.calls.len() {
-        let Some(shut) = run.calls.get(k).and_then(shut_by) else {
-            return Ok(false);
-        };
-        if let Some(before) = last
-            && !comes_before(before, shut)
-        {
-            return Ok(false);
+        match run.calls.get(k).and_then(shut_by) {
+            Some(shut) if shut >= least => least = shut.saturating_add(1),
+            _ => return false,
         }
-        last = Some(shut);
     }
-    let open = run.open_after(alloc, run.calls.len())?;
-    let more = run.calls.len().saturating_sub(count);
-    Ok(open.is_empty() && run.open_after(alloc, count)?.len() == more)
+    true
 }
 
-/// The record of the call at a place fails: the calls go on as they were up to it, then the open
-/// ends are shut, the record holds the calls before it, and the last line tells it.
-fn recorder_is_right(
-    alloc: Global,
-    run: &Run,
-    plain: &Run,
-    at: usize,
-    record: &[u8],
-) -> Result<bool, Memory> {
-    let count = at.saturating_add(1);
-    let ended = run.served == Served::Fault(Outside::Capture);
-    let kept = run.record.as_slice() == record;
-    let told = run.report.as_slice().ends_with(b"fault: capture\n");
-    Ok(
-        ended
-            && kept
-            && told
-            && begins_as(alloc, run, plain, count)?
-            && only_shuts_follow(alloc, run, count)?,
-    )
+/// All that are open are shut there.
+fn all_are_shut(alloc: Global, run: &Run, count: usize) -> Result<bool, Memory> {
+    let more = run.calls.len().saturating_sub(count);
+    let left = count_open(alloc, run, run.calls.len())?;
+    Ok(left == 0 && count_open(alloc, run, count)? == more)
+}
+
+/// The record of the call at a place fails: the service ended with its failure, the record holds
+/// the calls before it, and the last line tells it.
+fn is_told(run: &Run, record: &[u8]) -> bool {
+    run.served == Served::Fault(Outside::Capture)
+        && run.record.as_slice() == record
+        && run.report.as_slice().ends_with(b"fault: capture\n")
+}
+
+/// The calls go on as they were up to that one, and then the open ends are shut.
+fn is_right(alloc: Global, run: &Run, plain: &Run, count: usize) -> Result<bool, Memory> {
+    if !begins_as(alloc, run, plain, count)? {
+        return Ok(false);
+    }
+    Ok(are_shuts(run, count) && all_are_shut(alloc, run, count)?)
 }
 
 /// Plays once more, with a recorder that fails at this call; whether each rule holds.
@@ -82,34 +58,35 @@ fn is_right_unrecorded(
     plain: &Run,
     at: usize,
 ) -> Result<bool, Memory> {
-    let record = plain.record_of(alloc, at)?;
-    let run = play_with(alloc, scenario, None, record.as_slice().len())?;
-    recorder_is_right(alloc, &run, plain, at, record.as_slice())
+    let size = record_size(alloc, plain, at)?;
+    let run = play_with(alloc, scenario, None, size)?;
+    let is_told = is_told(&run, part(plain.record.as_slice(), 0, size));
+    let is_right = is_right(alloc, &run, plain, at.saturating_add(1));
+    drop(run);
+    Ok(is_told && is_right?)
 }
 
 /// The same for each call of a play: those after which a rule was broken.
-fn put_broken_calls(
-    alloc: Global,
-    scenario: &Scenario,
-    plain: &Run,
-    out: &mut String,
-) -> Result<(), Memory> {
-    let count = plain.calls.len();
-    write!(out, "unrecorded: {count} calls")?;
-    for k in 0..count {
-        if !is_right_unrecorded(alloc, scenario, plain, k)? {
-            write!(out, ", not call {k}")?;
+fn put_broken_calls(out: &mut Printed, alloc: Global, scenario: &Scenario, plain: &Run) {
+    out.put("unrecorded: ");
+    out.show(plain.calls.len());
+    out.put(" calls");
+    for k in 0..plain.calls.len() {
+        if out.take(is_right_unrecorded(alloc, scenario, plain, k)) != Some(true) {
+            out.put(", not call ");
+            out.show(k);
         }
     }
-    out.push_str("\n")?;
-    Ok(())
+    out.put("\n");
 }
 
 /// The recorder fails at each call in turn: how many calls there are, and those after which a rule
 /// was broken.
-pub fn put_unrecorded(alloc: Global, scenario: &Scenario, out: &mut String) -> Result<(), Memory> {
-    let plain = play(alloc, scenario)?;
-    put_broken_calls(alloc, scenario, &plain, out)
+pub fn put_unrecorded(out: &mut Printed, alloc: Global, scenario: &Scenario) {
+    if let Some(plain) = out.take(play(alloc, scenario)) {
+        put_broken_calls(out, alloc, scenario, &plain);
+        drop(plain);
+    }
 }
 
 /// The calls before the last of those that only shut.
@@ -125,15 +102,21 @@ fn count_before_shuts(run: &Run) -> usize {
     count
 }
 
-/// What a report that failed holds is a front part of the whole one. The service ended with its
-/// failure, the calls go on as they were up to it, and then the open ends are shut.
-fn report_is_right(alloc: Global, run: &Run, plain: &Run) -> Result<bool, Memory> {
+/// What a report that failed holds is a front part of the whole one, and the service ended with its
+/// failure.
+fn is_front(run: &Run, plain: &Run) -> bool {
     let (held, whole) = (run.report.as_slice(), plain.report.as_slice());
-    let is_front = held.len() < whole.len() && held == part(whole, 0, held.len());
-    let open = run.open_after(alloc, run.calls.len())?;
-    let count = count_before_shuts(run);
-    let ended = run.served == Served::Fault(Outside::Out);
-    Ok(is_front && ended && open.is_empty() && begins_as(alloc, run, plain, count)?)
+    run.served == Served::Fault(Outside::Out)
+        && held.len() < whole.len()
+        && held == part(whole, 0, held.len())
+}
+
+/// The calls go on as they were up to it, and then the open ends are shut.
+fn ends_rightly(alloc: Global, run: &Run, plain: &Run) -> Result<bool, Memory> {
+    if count_open(alloc, run, run.calls.len())? > 0 {
+        return Ok(false);
+    }
+    begins_as(alloc, run, plain, count_before_shuts(run))
 }
 
 /// A play whose report was to fail at a write.
@@ -151,7 +134,7 @@ fn judged(alloc: Global, run: &Run, plain: &Run) -> Result<Unreported, Memory> {
     if run.served == plain.served && run.report.as_slice() == plain.report.as_slice() {
         return Ok(Unreported::Whole);
     }
-    if report_is_right(alloc, run, plain)? {
+    if is_front(run, plain) && ends_rightly(alloc, run, plain)? {
         Ok(Unreported::Right)
     } else {
         Ok(Unreported::Broken)
@@ -166,34 +149,38 @@ fn play_unreported(
     at: usize,
 ) -> Result<Unreported, Memory> {
     let run = play_with(alloc, scenario, Some(at as u64), SINK_ROOM)?;
-    judged(alloc, &run, plain)
+    let judged = judged(alloc, &run, plain);
+    drop(run);
+    judged
 }
 
 /// The same for each write of a play: how many it has, and those after which a rule was broken.
-fn put_broken_writes(
-    alloc: Global,
-    scenario: &Scenario,
-    plain: &Run,
-    out: &mut String,
-) -> Result<(), Memory> {
-    out.push_str("unreported:")?;
+fn put_broken_writes(out: &mut Printed, alloc: Global, scenario: &Scenario, plain: &Run) {
+    out.put("unreported:");
     for k in 0..plain.report.as_slice().len() {
-        match play_unreported(alloc, scenario, plain, k)? {
-            Unreported::Whole => {
-                write!(out, " {k} writes\n")?;
-                return Ok(());
+        match out.take(play_unreported(alloc, scenario, plain, k)) {
+            Some(Unreported::Whole) => {
+                out.put(" ");
+                out.show(k);
+                out.put(" writes\n");
+                return;
             }
-            Unreported::Right => {}
-            Unreported::Broken => write!(out, " not write {k},")?,
+            Some(Unreported::Broken) => {
+                out.put(" not write ");
+                out.show(k);
+                out.put(",");
+            }
+            Some(Unreported::Right) | None => {}
         }
     }
-    out.push_str(" a write of each byte\n")?;
-    Ok(())
+    out.put(" a write of each byte\n");
 }
 
 /// The report fails at each of its writes: how many it has, and those after which a rule was
 /// broken.
-pub fn put_unreported(alloc: Global, scenario: &Scenario, out: &mut String) -> Result<(), Memory> {
-    let plain = play(alloc, scenario)?;
-    put_broken_writes(alloc, scenario, &plain, out)
+pub fn put_unreported(out: &mut Printed, alloc: Global, scenario: &Scenario) {
+    if let Some(plain) = out.take(play(alloc, scenario)) {
+        put_broken_writes(out, alloc, scenario, &plain);
+        drop(plain);
+    }
 }

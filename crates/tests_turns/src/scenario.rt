@@ -3,7 +3,7 @@
 ghost use Rattle.gate_runs.specs.Form.{IsInForm};
 
 use crate::ferry::Setup;
-use gate_outside::{CallList, End, Piece, Room, Script};
+use gate_outside::{End, Piece, Room, Script};
 use gate_runs::Limits;
 use std::alloc::Global;
 use wire_base::{ByteText, ItemList, Memory};
@@ -78,7 +78,7 @@ impl Scenario {
     }
 }
 
-/// The pieces of a scenario.
+/// Adds the pieces of a scenario.
 fn add_pieces(alloc: Global, scenario: &Scenario, script: &mut Script) -> Result<(), Memory> {
     for sent in &scenario.sent {
         script.pieces.push(Piece {
@@ -92,25 +92,40 @@ fn add_pieces(alloc: Global, scenario: &Scenario, script: &mut Script) -> Result
     Ok(())
 }
 
+/// Adds how much its writes take, and the calls that fail.
+fn add_rooms(scenario: &Scenario, script: &mut Script) -> Result<(), Memory> {
+    for room in &scenario.taken {
+        script.rooms.push(*room)?;
+    }
+    for call in &scenario.faults {
+        script.fails.push(*call)?;
+    }
+    Ok(())
+}
+
+/// Adds all of it.
+fn fill(alloc: Global, scenario: &Scenario, script: &mut Script) -> Result<(), Memory> {
+    add_pieces(alloc, scenario, script)?;
+    add_rooms(scenario, script)
+}
+
 /// The script of a scenario.
 pub fn script_of(alloc: Global, scenario: &Scenario) -> Result<Script, Memory> {
-    let mut fails: CallList = ItemList::empty(alloc);
-    for call in &scenario.faults {
-        fails.push(*call)?;
-    }
     let mut script = Script {
         pairs: scenario.numbers.pairs,
         pieces: ItemList::empty(alloc),
         rooms: ItemList::empty(alloc),
-        fails,
+        fails: ItemList::empty(alloc),
         idles: scenario.numbers.idles,
         step: scenario.numbers.step,
     };
-    add_pieces(alloc, scenario, &mut script)?;
-    for room in &scenario.taken {
-        script.rooms.push(*room)?;
+    match fill(alloc, scenario, &mut script) {
+        Ok(()) => Ok(script),
+        Err(memory) => {
+            drop(script);
+            Err(memory)
+        }
     }
-    Ok(script)
 }
 
 /// What limits the run: at least one turn.
