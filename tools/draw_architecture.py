@@ -17,7 +17,7 @@ TABLES = {
 }
 # The changes of the table, with the crates in which they are made.
 CHANGES = [
-    ("a socket, a file, a line on the standard error", ["gate_edge"]),
+    ("a socket, a file, a line on the standard error", ["gate_ends", "gate_edge"]),
     ("an option of the command line", ["gate_command"]),
     ("a line of a capture's listing", ["gate_show"]),
     ("a law of whole runs", ["gate_laws"]),

@@ -1,10 +1,9 @@
 //! Where clients come in: the listener, and the sockets that the system watches.
 
-use crate::open_ends::{ENDS, PAIRS};
-use crate::pace::Pace;
 use crate::sockets::{address_of, next_client, spare_descriptors};
 use crate::standard_error::{may_read, tell_accept, tell_full, tell_listening, tell_room};
 use crate::waiting::Watch;
+use gate_ends::{ENDS, PAIRS, Pace};
 use gate_outside::End;
 use mio::net::{TcpListener, TcpStream};
 use std::alloc::Global;

@@ -3,23 +3,13 @@
 //! and kept.
 #![tactic(auto)]
 
-mod answers;
 mod door;
 mod faults;
-mod link;
-mod open_ends;
 mod outbox;
-mod outgoing;
-mod pace;
-mod partings;
-mod pieces;
 mod real_ports;
 mod sockets;
 mod standard;
 mod standard_error;
-#[cfg(test)]
-mod tests;
-mod unsent;
 mod upstream;
 mod waiting;
 

@@ -3,9 +3,8 @@
 ghost use Rattle.std.specs.Prelude.{◌≡◌, ◌<◌, ◌≤◌, length, IfOk, IfSome, None};
 
 use crate::faults::raise;
-use crate::outgoing::Outgoing;
 use crate::standard_error::{may_write, tell_output};
-use crate::unsent::Unsent;
+use gate_ends::{Outgoing, Unsent};
 use gate_outside::{Put, Sink, Sunk};
 use std::alloc::Global;
 use std::cell::RefCell;

@@ -3,20 +3,18 @@
 ghost use Rattle.std.specs.Prelude.{◌≡◌, ◌<◌, ◌≤◌, ◌↔◌, [], IfOk, IsSome, None, vec_len};
 ghost use Rattle.gate_outside.specs.Counts.{Rose};
 ghost use Rattle.gate_outside.specs.Ends.{IsNumbered, pairs_after, ends_accepted};
-ghost use Rattle.gate_edge.specs.OpenEnds.{HasRoom};
-ghost use Rattle.gate_edge.specs.declared.pieces.TheConstants.{PIECE};
+ghost use Rattle.gate_ends.specs.OpenEnds.{HasRoom};
+ghost use Rattle.gate_ends.specs.declared.pieces.TheConstants.{PIECE};
 
-use crate::answers::{accepted_of, is_used_up, is_waiting, is_waiting_to_accept};
 use crate::door::Door;
 use crate::faults::raise;
-use crate::link::Link;
-use crate::open_ends::{ENDS, OpenEnds};
 use crate::outbox::Outbox;
-use crate::partings::Parting;
-use crate::pieces::PIECE;
-use crate::unsent::Unsent;
 use crate::upstream::Upstream;
 use crate::waiting::{Said, said_by};
+use gate_ends::{
+    ENDS, Link, OpenEnds, PIECE, Parting, Unsent, accepted_of, is_used_up, is_waiting,
+    is_waiting_to_accept,
+};
 use gate_outside::{Accepted, End, Got, Linked, Next, Ports, Put};
 use mio::net::TcpStream;
 use std::alloc::Global;

@@ -3,10 +3,10 @@
 ghost use Rattle.std.specs.Prelude.{◌≡◌, ◌<◌, ◌≤◌, length, drop, vec_len};
 ghost use Rattle.std.specs.Prelude.{IfOk, IfSome, IfNone, None};
 ghost use Rattle.gate_edge.specs.Streams.{SomeRead, SomeWrite};
-ghost use Rattle.gate_edge.specs.declared.pieces.TheConstants.{PIECE};
+ghost use Rattle.gate_ends.specs.declared.pieces.TheConstants.{PIECE};
 
 use crate::faults::raise;
-use crate::pieces::{PIECE, read_into};
+use gate_ends::{PIECE, read_into};
 use gate_outside::{Drawn, Sink, Source, Sunk};
 use std::alloc::Global;
 use std::io::{ErrorKind, Read, Write};

@@ -1,9 +1,9 @@
 //! Where the container is.
 
 use crate::door::Door;
-use crate::pace::Pace;
 use crate::sockets::{address_of, link_to};
 use crate::standard_error::{tell_container, tell_unknown};
+use gate_ends::Pace;
 use gate_outside::End;
 use mio::net::TcpStream;
 use std::io;
