@@ -97,12 +97,13 @@ pub fn bytes_of(alloc: Global, text: &str) -> Result<Option<ByteText>, Memory> {
 
 /// One byte so many times.
 fn put_run(out: &mut String, byte: u8, count: usize) -> Result<(), Memory> {
-    if count >= 8 {
-        write!(out, " {byte:02X}*{count}")?;
-    } else {
-        for _ in 0..count {
-            write!(out, " {byte:02X}")?;
-        }
+    let is_long = count >= 8;
+    let times = if is_long { 1 } else { count };
+    for _ in 0..times {
+        write!(out, " {byte:02X}")?;
+    }
+    if is_long {
+        write!(out, "*{count}")?;
     }
     Ok(())
 }
@@ -122,16 +123,20 @@ pub fn put_bytes(out: &mut String, bytes: &[u8]) -> Result<(), Memory> {
     put_run(out, last, count)
 }
 
+/// Whether bytes are few, and each stands for itself in quotes.
+fn is_plain(bytes: &[u8]) -> bool {
+    bytes.len() <= 64
+        && bytes
+            .iter()
+            .all(|byte| *byte >= b' ' && *byte <= b'~' && *byte != b'"')
+}
+
 /// Bytes in quotes, each with no blank, or digits.
 pub fn put_text(out: &mut String, bytes: &[u8]) -> Result<(), Memory> {
-    let is_plain = bytes
-        .iter()
-        .all(|byte| *byte >= b' ' && *byte <= b'~' && *byte != b'"');
     match std::str::from_utf8(bytes) {
-        Ok(text) if is_plain && bytes.len() <= 64 => write!(out, " \"{text}\"")?,
-        _ => put_bytes(out, bytes)?,
+        Ok(text) if is_plain(bytes) => Ok(write!(out, " \"{text}\"")?),
+        _ => put_bytes(out, bytes),
     }
-    Ok(())
 }
 
 /// The bytes from one place to another, none where they aren't all there.

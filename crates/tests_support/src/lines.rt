@@ -1,8 +1,9 @@
 //! The loop over the lines of the input.
 
+use crate::printing::Printed;
 use std::alloc::Global;
 use std::io;
-use std::io::{BufRead, BufReader, BufWriter, Input, Print, Write};
+use std::io::{Input, Print, Write};
 use wire_base::Memory;
 
 /// A program whose cases are lines.
@@ -13,49 +14,27 @@ pub trait Cases {
     fn answer(&mut self, alloc: Global, line: &str) -> Result<Option<String>, Memory>;
 }
 
-/// A line as it is, behind what is said of it.
-fn said_of(alloc: Global, before: &str, line: &str) -> Result<String, Memory> {
-    let text = format!(in alloc; "{before}{line}\n")?;
-    Ok(text)
-}
-
-/// What is printed for a line. Empty lines and remarks, which begin with `#`, are printed as they
-/// are.
-fn answer_to<C: Cases>(alloc: Global, cases: &mut C, line: &str) -> Result<String, Memory> {
+/// Prints what is printed for a line. Empty lines and remarks, which begin with `#`, are printed as
+/// they are.
+fn put_answer<C: Cases>(alloc: Global, cases: &mut C, line: &str, out: &mut Printed) {
     if line.is_empty() || line.starts_with('#') {
-        return said_of(alloc, "", line);
+        out.put_line("", line);
+        return;
     }
-    match cases.answer(alloc, line)? {
-        Some(text) => Ok(text),
-        None => said_of(alloc, "no case: ", line),
-    }
-}
-
-/// Prints the answer to a line.
-fn put_answer<C: Cases, W: Write>(
-    alloc: Global,
-    cases: &mut C,
-    line: &str,
-    out: &mut W,
-) -> io::Result<()> {
-    match answer_to(alloc, cases, line) {
-        Ok(text) => out.write_all(text.as_bytes()),
-        Err(_) => Err(io::Error::from(io::ErrorKind::OutOfMemory)),
+    match cases.answer(alloc, line) {
+        Ok(Some(text)) => out.put(text.as_str()),
+        Ok(None) => out.put_line("no case: ", line),
+        Err(Memory) => out.cut(),
     }
 }
 
-/// Reads lines up to the end, and prints the answer to each.
-fn put_answers<R: BufRead + Drop, C: Cases, W: Write>(
-    alloc: Global,
-    reader: R,
-    cases: &mut C,
-    out: &mut W,
-) -> io::Result<()> {
-    for line in reader.lines(alloc) {
-        let line = line?;
-        put_answer(alloc, cases, line.as_str(), out)?;
+/// What is printed for all lines.
+fn answers<C: Cases>(alloc: Global, cases: &mut C, lines: &str) -> Result<String, Memory> {
+    let mut out = Printed::new(alloc);
+    for line in lines.lines() {
+        put_answer(alloc, cases, line, &mut out);
     }
-    out.flush()
+    out.end()
 }
 
 /// Reads lines up to the end of the input, and prints the answer to each.
@@ -63,7 +42,9 @@ pub fn answer_lines<R: Input + Print + AllocGlobal, C: Cases>(
     rt: &R,
     cases: &mut C,
 ) -> io::Result<()> {
-    let reader = BufReader::new(rt.alloc(), rt.reader())?;
-    let mut out = BufWriter::new(rt.alloc(), io::writer(rt))?;
-    put_answers(rt.alloc(), reader, cases, &mut out)
+    let lines = io::read_to_string(rt.alloc(), rt.reader())?;
+    match answers(rt.alloc(), cases, lines.as_str()) {
+        Ok(text) => io::writer(rt).write_all(text.as_bytes()),
+        Err(Memory) => Err(io::Error::from(io::ErrorKind::OutOfMemory)),
+    }
 }

@@ -18,8 +18,23 @@ pub struct Names {
 }
 
 /// The first of these that has a name.
-fn find_name<'a>(all: &'a [Named], name: &str) -> Option<&'a Named> {
-    all.iter().find(|named| named.name.as_str() == name)
+fn bytes_named<'a>(all: &'a [Named], name: &str) -> Option<&'a [u8]> {
+    for named in all {
+        if named.name.as_str() == name {
+            return Some(named.bytes.as_slice());
+        }
+    }
+    None
+}
+
+/// The name of the first of these that has these bytes.
+fn name_of<'a>(all: &'a [Named], bytes: &[u8]) -> Option<&'a str> {
+    for named in all {
+        if named.bytes.as_slice() == bytes {
+            return Some(named.name.as_str());
+        }
+    }
+    None
 }
 
 /// Adds the bytes of a name, or of digits; whether it is either.
@@ -29,8 +44,8 @@ fn append_part(
     out: &mut ByteText,
     part: &str,
 ) -> Result<bool, Memory> {
-    if let Some(named) = find_name(all, part) {
-        out.append(named.bytes.as_slice())?;
+    if let Some(bytes) = bytes_named(all, part) {
+        out.append(bytes)?;
         return Ok(true);
     }
     let Some(bytes) = bytes_of(alloc, part)? else {
@@ -74,14 +89,12 @@ impl Names {
 
     /// The name of these bytes with a blank before it; whether they have one.
     pub fn put_name(&self, out: &mut String, bytes: &[u8]) -> Result<bool, Memory> {
-        for named in &self.all {
-            if named.bytes.as_slice() == bytes {
-                out.push_str(" ")?;
-                out.push_str(named.name.as_str())?;
-                return Ok(true);
-            }
-        }
-        Ok(false)
+        let Some(name) = name_of(self.all.as_slice(), bytes) else {
+            return Ok(false);
+        };
+        out.push_str(" ")?;
+        out.push_str(name)?;
+        Ok(true)
     }
 
     /// Bytes by their name, or as digits, with a blank before it.

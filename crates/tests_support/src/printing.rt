@@ -3,7 +3,7 @@
 use crate::bytes::{put_bytes, put_text};
 use std::alloc::Global;
 use std::fmt::{Debug, Display};
-use wire_base::Memory;
+use wire_base::{ByteText, Memory};
 
 /// What is printed of a line. That memory ran out is told at its end, so what writes needs no `?`.
 #[derive(Drop)]
@@ -73,6 +73,18 @@ impl Printed {
         }
     }
 
+    /// A line, behind what is said of it.
+    pub(crate) fn put_line(&mut self, before: &str, line: &str) {
+        self.put(before);
+        self.put(line);
+        self.put("\n");
+    }
+
+    /// Notes that memory ran out.
+    pub(crate) fn cut(&mut self) {
+        self.is_cut = true;
+    }
+
     /// A value as it is shown.
     pub fn show<T: Display + Copy>(&mut self, value: T) {
         if write!(self.text, "{value}").is_err() {
@@ -119,6 +131,31 @@ impl Printed {
     pub fn put_text(&mut self, bytes: &[u8]) {
         if put_text(&mut self.text, bytes).is_err() {
             self.is_cut = true;
+        }
+    }
+
+    /// What is written of what bytes spell, from a place on: `=` where it is the same bytes, `-`
+    /// where nothing can be.
+    pub fn put_written(
+        &mut self,
+        written: Result<Option<ByteText>, Memory>,
+        from: usize,
+        bytes: &[u8],
+    ) {
+        match written {
+            Ok(Some(text)) => self.put_same(text.as_slice().get(from..).unwrap_or(&[]), bytes),
+            Ok(None) => self.put(" | -"),
+            Err(Memory) => self.is_cut = true,
+        }
+    }
+
+    /// Bytes, or `=` where they are the same as these.
+    fn put_same(&mut self, text: &[u8], bytes: &[u8]) {
+        if text == bytes {
+            self.put(" | =");
+        } else {
+            self.put(" |");
+            self.put_bytes(text);
         }
     }
 }
