@@ -1,220 +1,192 @@
 //! Cases of messages.
 
-use crate::notation::{put_notation, put_spelling};
+use crate::notation::put_notation;
 use sections_10::{
-    Body10, Message10, MsgHeader, MsgProps, SectionFault, can_be_written, put_message, read_message,
+    Body10, Message10, MsgHeader, MsgProps, can_be_written, put_message, read_message,
 };
 use std::alloc::Global;
-use tests_support::{bytes_of, part, put_bytes};
+use tests_support::{Printed, bytes_of, part};
 use types_10::Value10;
-use wire_base::{At, ByteText, Memory};
+use wire_base::{ByteText, Memory};
+
+/// What stands before each message that is written.
+const BEFORE: &[u8] = b"before";
 
 /// A text that is there.
-fn put_text(out: &mut String, name: &str, text: &Option<ByteText>) -> Result<(), Memory> {
+fn put_text(out: &mut Printed, name: &str, text: &Option<ByteText>) {
     if let Some(text) = text {
-        write!(out, " {name} {text:?}")?;
+        out.put(name);
+        out.debug(text);
     }
-    Ok(())
 }
 
 /// A number that is there.
-fn put_number(out: &mut String, name: &str, n: Option<i64>) -> Result<(), Memory> {
+fn put_number(out: &mut Printed, name: &str, n: Option<i64>) {
     if let Some(n) = n {
-        write!(out, " {name} {n}")?;
+        out.put(name);
+        out.show(n);
     }
-    Ok(())
 }
 
 /// A value that is there.
-fn put_value(
-    alloc: Global,
-    out: &mut String,
-    name: &str,
-    value: &Option<Value10>,
-) -> Result<(), Memory> {
+fn put_value(alloc: Global, out: &mut Printed, name: &str, value: &Option<Value10>, end: &str) {
     if let Some(value) = value {
-        write!(out, " {name} ")?;
-        put_notation(alloc, out, 18, value)?;
+        out.put(name);
+        put_notation(alloc, out, 18, value);
+        out.put(end);
     }
-    Ok(())
 }
 
 /// The fields of a header.
-fn put_header(out: &mut String, header: &MsgHeader) -> Result<(), Memory> {
-    out.push_str("header")?;
+fn put_header(out: &mut Printed, header: &MsgHeader) {
+    out.put("header");
     if let Some(durable) = header.durable {
-        write!(out, " durable {durable}")?;
+        out.put(" durable ");
+        out.show(durable);
     }
-    put_number(out, "priority", header.priority.map(i64::from))?;
-    put_number(out, "ttl", header.ttl.map(i64::from))?;
-    let first = header.first_acquirer;
-    let count = header.delivery_count;
-    write!(out, " first-acquirer {first} delivery-count {count} | ")?;
-    Ok(())
+    put_number(out, " priority ", header.priority.map(i64::from));
+    put_number(out, " ttl ", header.ttl.map(i64::from));
+    out.put(" first-acquirer ");
+    out.show(header.first_acquirer);
+    out.put(" delivery-count ");
+    out.show(header.delivery_count);
+    out.put(" | ");
 }
 
 /// The fields of properties.
-fn put_properties(alloc: Global, out: &mut String, props: &MsgProps) -> Result<(), Memory> {
-    out.push_str("properties")?;
-    put_value(alloc, out, "message-id", &props.message_id)?;
-    put_text(out, "user-id", &props.user_id)?;
-    put_text(out, "to", &props.to)?;
-    put_text(out, "subject", &props.subject)?;
-    put_text(out, "reply-to", &props.reply_to)?;
-    put_value(alloc, out, "correlation-id", &props.correlation_id)?;
-    put_text(out, "content-type", &props.content_type)?;
-    put_text(out, "content-encoding", &props.content_encoding)?;
-    put_number(out, "absolute-expiry-time", props.absolute_expiry_time)?;
-    put_number(out, "creation-time", props.creation_time)?;
-    put_text(out, "group-id", &props.group_id)?;
-    put_number(out, "group-sequence", props.group_sequence.map(i64::from))?;
-    put_text(out, "reply-to-group-id", &props.reply_to_group_id)?;
-    out.push_str(" | ")?;
-    Ok(())
+fn put_properties(alloc: Global, out: &mut Printed, props: &MsgProps) {
+    out.put("properties");
+    put_value(alloc, out, " message-id ", &props.message_id, "");
+    put_text(out, " user-id ", &props.user_id);
+    put_text(out, " to ", &props.to);
+    put_text(out, " subject ", &props.subject);
+    put_text(out, " reply-to ", &props.reply_to);
+    put_value(alloc, out, " correlation-id ", &props.correlation_id, "");
+    put_text(out, " content-type ", &props.content_type);
+    put_text(out, " content-encoding ", &props.content_encoding);
+    put_number(out, " absolute-expiry-time ", props.absolute_expiry_time);
+    put_number(out, " creation-time ", props.creation_time);
+    put_text(out, " group-id ", &props.group_id);
+    put_number(out, " group-sequence ", props.group_sequence.map(i64::from));
+    put_text(out, " reply-to-group-id ", &props.reply_to_group_id);
+    out.put(" | ");
+}
+
+/// Bytes with their name.
+fn put_named(out: &mut Printed, name: &str, bytes: &[u8]) {
+    out.put(name);
+    out.put_bytes(bytes);
 }
 
 /// A body.
-fn put_body(out: &mut String, body: &Body10) -> Result<(), Memory> {
-    let (name, bytes) = match body {
-        Body10::Data(bytes) => ("data", bytes.as_slice()),
-        Body10::Text(bytes) => ("text", bytes.as_slice()),
-        Body10::Binary(bytes) => ("binary", bytes.as_slice()),
-        Body10::Other => ("other", b"".as_slice()),
-    };
-    out.push_str(name)?;
-    put_bytes(out, bytes)
+fn put_body(out: &mut Printed, body: &Body10) {
+    match body {
+        Body10::Data(bytes) => put_named(out, "data", bytes.as_slice()),
+        Body10::Text(bytes) => put_named(out, "text", bytes.as_slice()),
+        Body10::Binary(bytes) => put_named(out, "binary", bytes.as_slice()),
+        Body10::Other => out.put("other"),
+    }
 }
 
 /// What a message says.
-fn put_seen(alloc: Global, out: &mut String, message: &Message10) -> Result<(), Memory> {
+fn put_seen(alloc: Global, out: &mut Printed, message: &Message10) {
     if let Some(header) = &message.header {
-        put_header(out, header)?;
+        put_header(out, header);
     }
-    if let Some(annotations) = &message.annotations {
-        out.push_str("annotations ")?;
-        put_notation(alloc, out, 18, annotations)?;
-        out.push_str(" | ")?;
-    }
+    put_value(alloc, out, "annotations ", &message.annotations, " | ");
     if let Some(props) = &message.properties {
-        put_properties(alloc, out, props)?;
+        put_properties(alloc, out, props);
     }
-    if let Some(application) = &message.application {
-        out.push_str("application ")?;
-        put_notation(alloc, out, 18, application)?;
-        out.push_str(" | ")?;
-    }
-    put_body(out, &message.body)
+    put_value(alloc, out, "application ", &message.application, " | ");
+    put_body(out, &message.body);
 }
 
-/// What a message says, as a text of its own.
-fn seen_text(alloc: Global, message: &Message10) -> Result<String, Memory> {
-    let mut out = String::new(alloc);
-    put_seen(alloc, &mut out, message)?;
-    Ok(out)
-}
-
-/// A fault and its place.
-fn fault_text(alloc: Global, found: At<SectionFault>) -> Result<String, Memory> {
-    let fault = found.fault;
-    let at = found.at;
-    let text = format!(in alloc; "{fault:?} {at}")?;
-    Ok(text)
-}
-
-/// The message that fills bytes, or a fault and its place.
-fn message_text(alloc: Global, bytes: &[u8]) -> Result<String, Memory> {
-    match read_message(alloc, bytes)? {
+/// The message that fills bytes, or a fault and its place. Answers the message.
+fn put_read(alloc: Global, out: &mut Printed, bytes: &[u8]) -> Option<Message10> {
+    match out.take(read_message(alloc, bytes))? {
         Ok(message) => {
-            let text = seen_text(alloc, &message);
-            drop(message);
-            text
+            put_seen(alloc, out, &message);
+            Some(message)
         }
-        Err(found) => fault_text(alloc, found),
+        Err(found) => {
+            out.debug(found.fault);
+            out.put(" ");
+            out.show(found.at);
+            None
+        }
     }
 }
 
-/// The bytes that are written of a message; `None` where it can't be written.
-fn spelling_of(alloc: Global, message: &Message10) -> Result<Option<ByteText>, Memory> {
+/// The same as a text of its own.
+fn text_of(alloc: Global, bytes: &[u8]) -> Result<String, Memory> {
+    let mut out = Printed::new(alloc);
+    drop(put_read(alloc, &mut out, bytes));
+    out.end()
+}
+
+/// The bytes that are written of a message, behind others; `None` where it can't be written.
+fn written(alloc: Global, message: &Message10) -> Result<Option<ByteText>, Memory> {
     if !can_be_written(alloc, message)? {
         return Ok(None);
     }
-    let mut text = ByteText::copy_of(alloc, b"before")?;
+    let mut text = ByteText::copy_of(alloc, BEFORE)?;
     put_message(alloc, &mut text, message)?;
-    let text = ByteText::copy_of(alloc, part(text.as_slice(), 6, text.as_slice().len()))?;
     Ok(Some(text))
 }
 
-/// What is written of the message that fills bytes; nothing where no message fills them.
-fn put_written(alloc: Global, out: &mut String, bytes: &[u8]) -> Result<(), Memory> {
-    match read_message(alloc, bytes)? {
-        Ok(message) => {
-            let spelling = spelling_of(alloc, &message);
-            drop(message);
-            put_spelling(out, bytes, &spelling?)
-        }
-        Err(_) => Ok(()),
+/// The message that fills bytes, and what is written of it.
+fn put_case(alloc: Global, out: &mut Printed, bytes: &[u8]) {
+    if let Some(message) = put_read(alloc, out, bytes) {
+        out.put_written(written(alloc, &message), BEFORE.len(), bytes);
     }
 }
 
 /// An answer so many times.
-fn put_run(out: &mut String, answer: &str, count: usize) -> Result<(), Memory> {
+fn put_run(out: &mut Printed, answer: &str, count: usize) {
     if count > 0 {
-        out.push_str(" ")?;
-        out.push_str(answer)?;
+        out.put(" ");
+        out.put(answer);
     }
     if count > 1 {
-        write!(out, "*{count}")?;
+        out.put("*");
+        out.show(count);
     }
-    Ok(())
 }
 
 /// The answer at each shorter length, from none on.
-fn put_cuts(alloc: Global, out: &mut String, bytes: &[u8]) -> Result<(), Memory> {
-    out.push_str(" | cuts")?;
+fn put_cuts(alloc: Global, out: &mut Printed, bytes: &[u8]) {
+    out.put(" | cuts");
     let mut last = String::new(alloc);
     let mut count = 0usize;
     for size in 0..bytes.len() {
-        let text = message_text(alloc, part(bytes, 0, size))?;
+        let Some(text) = out.take(text_of(alloc, part(bytes, 0, size))) else {
+            return;
+        };
         if text.as_str() != last.as_str() {
-            put_run(out, last.as_str(), count)?;
+            put_run(out, last.as_str(), count);
             count = 0;
         }
         last = text;
         count = count.saturating_add(1);
     }
-    put_run(out, last.as_str(), count)
-}
-
-/// The words of the bytes of a case, and whether each shorter length is asked too.
-fn words_of(line: &str) -> Option<(&str, bool)> {
-    if let Some(words) = line.strip_prefix("cuts message ") {
-        return Some((words, true));
-    }
-    if line == "message" {
-        return Some(("", false));
-    }
-    let words = line.strip_prefix("message ")?;
-    Some((words, false))
-}
-
-/// The message that fills bytes, and what is written of it.
-fn put_case(alloc: Global, out: &mut String, bytes: &[u8]) -> Result<(), Memory> {
-    let text = message_text(alloc, bytes)?;
-    out.push_str(text.as_str())?;
-    put_written(alloc, out, bytes)
+    put_run(out, last.as_str(), count);
 }
 
 /// A case of messages; whether it is one.
-pub fn put_message_line(alloc: Global, out: &mut String, line: &str) -> Result<bool, Memory> {
-    let Some((words, cuts)) = words_of(line) else {
-        return Ok(false);
+pub fn put_message_line(alloc: Global, out: &mut Printed, line: &str) -> bool {
+    let (cut, rest) = match line.strip_prefix("cuts ") {
+        Some(rest) => (true, rest),
+        None => (false, line),
     };
-    let Some(bytes) = bytes_of(alloc, words)? else {
-        return Ok(false);
+    let Some(words) = rest.strip_prefix("message") else {
+        return false;
     };
-    put_case(alloc, out, bytes.as_slice())?;
-    if cuts {
-        put_cuts(alloc, out, bytes.as_slice())?;
+    let Some(bytes) = out.find(bytes_of(alloc, words)) else {
+        return false;
+    };
+    put_case(alloc, out, bytes.as_slice());
+    if cut {
+        put_cuts(alloc, out, bytes.as_slice());
     }
-    Ok(true)
+    true
 }

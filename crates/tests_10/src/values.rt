@@ -1,161 +1,143 @@
 //! Cases of values: what is printed of a line.
 
 use crate::building::built;
-use crate::notation::{put_notation, put_spelling};
+use crate::notation::put_notation;
 use std::alloc::Global;
-use tests_support::{bytes_of, part, put_bytes};
+use tests_support::{Printed, bytes_of, part};
 use types_10::{TypeFault, Value10, has_spelling, put_value, read_value, skip_value};
 use wire_base::{At, ByteText, Memory};
 
+/// What stands before each value that is written.
+const BEFORE: &[u8] = b"before";
+
 /// What `skip_value` answers, where that isn't what `read_value` does.
 fn put_skipped(
-    out: &mut String,
+    out: &mut Printed,
     skipped: Result<usize, At<TypeFault>>,
     read: Result<usize, At<TypeFault>>,
-) -> Result<(), Memory> {
+) {
     if skipped != read {
-        write!(out, " | skipped: {skipped:?}")?;
-    }
-    Ok(())
-}
-
-/// A value, and the offset after it.
-fn put_found(alloc: Global, out: &mut String, value: &Value10, after: usize) -> Result<(), Memory> {
-    put_notation(alloc, out, 17, value)?;
-    write!(out, " | {after}")?;
-    Ok(())
-}
-
-/// The value at an offset and the offset after it, or the fault and its place. Places are told so
-/// much less. It is also told where the value is skipped otherwise.
-fn read_text(alloc: Global, bytes: &[u8], from: usize, less: usize) -> Result<String, Memory> {
-    let mut out = String::new(alloc);
-    let skipped = skip_value(bytes, from);
-    match read_value(alloc, bytes, from)? {
-        Ok((value, after)) => {
-            let put = put_found(alloc, &mut out, &value, after.saturating_sub(less));
-            drop(value);
-            put?;
-            put_skipped(&mut out, skipped, Ok(after))?;
-        }
-        Err(found) => {
-            let fault = found.fault;
-            let at = found.at.saturating_sub(less);
-            write!(out, "{fault:?} {at}")?;
-            put_skipped(&mut out, skipped, Err(found))?;
-        }
-    }
-    Ok(out)
-}
-
-/// The offset after the value at an offset; none where there is none.
-fn end_of(alloc: Global, bytes: &[u8], from: usize) -> Result<Option<usize>, Memory> {
-    match read_value(alloc, bytes, from)? {
-        Ok((value, after)) => {
-            drop(value);
-            Ok(Some(after))
-        }
-        Err(_) => Ok(None),
+        out.put(" | skipped: ");
+        out.debug(skipped);
     }
 }
 
-/// The bytes that are written of a value; `None` where it can't be written.
-fn spelling_of(alloc: Global, value: &Value10) -> Result<Option<ByteText>, Memory> {
+/// The bytes that are written of a value, behind others; `None` where it can't be written.
+fn written(alloc: Global, value: &Value10) -> Result<Option<ByteText>, Memory> {
     if !has_spelling(value) {
         return Ok(None);
     }
-    let mut text = ByteText::copy_of(alloc, b"before")?;
+    let mut text = ByteText::copy_of(alloc, BEFORE)?;
     put_value(&mut text, value)?;
-    let text = ByteText::copy_of(alloc, part(text.as_slice(), 6, text.as_slice().len()))?;
     Ok(Some(text))
 }
 
-/// What is written of the value at an offset.
-fn written_at(alloc: Global, bytes: &[u8], from: usize) -> Result<Option<ByteText>, Memory> {
-    match read_value(alloc, bytes, from)? {
-        Ok((value, _)) => {
-            let spelling = spelling_of(alloc, &value);
-            drop(value);
-            spelling
-        }
-        Err(_) => Ok(None),
-    }
-}
-
-/// What is written of the value that stands from one place to another: `=` where it is what stands
-/// there, `-` where it can't be.
-fn put_written(
+/// The value at an offset, the offset after it and what is written of it, or the fault and its
+/// place. Places are told so much less. It is also told where the value is skipped otherwise.
+/// Answers the offset after the value.
+fn put_value_at(
     alloc: Global,
-    out: &mut String,
+    out: &mut Printed,
     bytes: &[u8],
     from: usize,
-    to: usize,
-) -> Result<(), Memory> {
-    let written = written_at(alloc, bytes, from)?;
-    put_spelling(out, part(bytes, from, to), &written)
+    less: usize,
+) -> Option<usize> {
+    let skipped = skip_value(bytes, from);
+    match out.take(read_value(alloc, bytes, from))? {
+        Ok((value, after)) => {
+            put_notation(alloc, out, 17, &value);
+            out.put(" | ");
+            out.show(after.saturating_sub(less));
+            put_skipped(out, skipped, Ok(after));
+            out.put_written(
+                written(alloc, &value),
+                BEFORE.len(),
+                part(bytes, from, after),
+            );
+            Some(after)
+        }
+        Err(found) => {
+            out.debug(found.fault);
+            out.put(" ");
+            out.show(found.at.saturating_sub(less));
+            put_skipped(out, skipped, Err(found));
+            None
+        }
+    }
 }
 
-/// Bytes with three before them, and two behind them if so asked.
-fn among(alloc: Global, bytes: &[u8], behind: bool) -> Result<ByteText, Memory> {
+/// The same as a text of its own.
+fn text_at(alloc: Global, bytes: &[u8], from: usize, less: usize) -> Result<String, Memory> {
+    let mut out = Printed::new(alloc);
+    put_value_at(alloc, &mut out, bytes, from, less);
+    out.end()
+}
+
+/// The answer for bytes that stand among others: three before them, and two behind a value.
+fn text_among(alloc: Global, bytes: &[u8], from: usize, behind: &[u8]) -> Result<String, Memory> {
     let mut among = ByteText::copy_of(alloc, b"\x3F\x3F\x3F")?;
     among.append(bytes)?;
-    if behind {
-        among.append(b"\x40\x3F")?;
-    }
-    Ok(among)
+    among.append(behind)?;
+    text_at(alloc, among.as_slice(), from.saturating_add(3), 3)
 }
 
 /// The answer for bytes, and another one where they stand among others and it differs. Behind a
 /// fault there are no others.
-fn put_answer(alloc: Global, out: &mut String, bytes: &[u8], from: usize) -> Result<(), Memory> {
-    let text = read_text(alloc, bytes, from, 0)?;
-    out.push_str(text.as_str())?;
-    let end = end_of(alloc, bytes, from)?;
-    if let Some(to) = end {
-        put_written(alloc, out, bytes, from, to)?;
+fn put_answer(alloc: Global, out: &mut Printed, bytes: &[u8], from: usize) {
+    let behind: &[u8] = match put_value_at(alloc, out, bytes, from, 0) {
+        Some(_) => b"\x40\x3F",
+        None => b"",
+    };
+    let Some(other) = out.take(text_among(alloc, bytes, from, behind)) else {
+        return;
+    };
+    if other.as_str() != out.as_str() {
+        out.put(" | among others: ");
+        out.put(other.as_str());
     }
-    let among = among(alloc, bytes, end.is_some())?;
-    let other = read_text(alloc, among.as_slice(), from.saturating_add(3), 3)?;
-    if other.as_str() != text.as_str() {
-        out.push_str(" | among others: ")?;
-        out.push_str(other.as_str())?;
+}
+
+/// Whether an answer is that the bytes are cut off at a length.
+fn is_cut_at(answer: &str, count: usize) -> bool {
+    match answer.strip_prefix("Cut ") {
+        Some(at) => at.parse().unwrap_or(usize::MAX) == count,
+        None => false,
     }
-    Ok(())
+}
+
+/// The answer at a shorter length, unless it is that the bytes are cut off there.
+fn put_cut(alloc: Global, out: &mut Printed, bytes: &[u8], count: usize) {
+    let Some(found) = out.take(text_at(alloc, part(bytes, 0, count), 0, 0)) else {
+        return;
+    };
+    if !is_cut_at(found.as_str(), count) {
+        out.put(", at ");
+        out.show(count);
+        out.put(": ");
+        out.put(found.as_str());
+    }
 }
 
 /// Each shorter length: those that aren't cut off at their length are told.
-fn put_cuts(alloc: Global, out: &mut String, bytes: &[u8]) -> Result<(), Memory> {
-    out.push_str(" | cuts")?;
+fn put_cuts(alloc: Global, out: &mut Printed, bytes: &[u8]) {
+    out.put(" | cuts");
     for count in 0..bytes.len() {
-        let wanted = format!(in alloc; "Cut {count}")?;
-        let found = read_text(alloc, part(bytes, 0, count), 0, 0)?;
-        if found.as_str() != wanted.as_str() {
-            write!(out, ", at {count}: ")?;
-            out.push_str(found.as_str())?;
-        }
+        put_cut(alloc, out, bytes, count);
     }
-    Ok(())
 }
 
 /// Values one after another, up to the end or a fault.
-fn put_sequence(alloc: Global, out: &mut String, bytes: &[u8]) -> Result<(), Memory> {
+fn put_sequence(alloc: Global, out: &mut Printed, bytes: &[u8]) {
     let mut at = 0usize;
     for _ in 0..bytes.len() {
-        let text = read_text(alloc, bytes, at, 0)?;
         if at > 0 {
-            out.push_str("\n")?;
+            out.put("\n");
         }
-        out.push_str(text.as_str())?;
-        let Some(to) = end_of(alloc, bytes, at)? else {
-            return Ok(());
-        };
-        put_written(alloc, out, bytes, at, to)?;
-        at = to;
+        at = put_value_at(alloc, out, bytes, at, 0).unwrap_or(bytes.len());
         if at >= bytes.len() {
-            return Ok(());
+            return;
         }
     }
-    Ok(())
 }
 
 /// Whether a code is unknown, alone and with zeros behind it.
@@ -163,7 +145,7 @@ fn is_unknown(alloc: Global, code: u8) -> Result<bool, Memory> {
     let mut bytes = [0u8; 41];
     bytes[0] = code;
     for count in [1usize, 2, 41] {
-        let found = read_text(alloc, part(&bytes, 0, count), 0, 0)?;
+        let found = text_at(alloc, part(&bytes, 0, count), 0, 0)?;
         if found.as_str() != "UnknownCode 0" {
             return Ok(false);
         }
@@ -172,119 +154,92 @@ fn is_unknown(alloc: Global, code: u8) -> Result<bool, Memory> {
 }
 
 /// The codes that are known.
-fn put_codes(alloc: Global, out: &mut String) -> Result<(), Memory> {
-    out.push_str("codes")?;
+fn put_codes(alloc: Global, out: &mut Printed) {
+    out.put("codes");
     for code in 0..=255u8 {
-        if !is_unknown(alloc, code)? {
-            put_bytes(out, &[code])?;
+        if out.take(is_unknown(alloc, code)) == Some(false) {
+            out.put_bytes(&[code]);
         }
     }
-    Ok(())
 }
 
 /// Bytes with so many lists around them, each of which has nine bytes before it.
-fn in_lists(alloc: Global, bytes: ByteText, count: usize) -> Result<ByteText, Memory> {
-    let mut bytes = bytes;
-    for _ in 0..count {
-        let size = u32::try_from(bytes.as_slice().len().saturating_add(4)).unwrap_or(u32::MAX);
-        let mut list = ByteText::copy_of(alloc, b"\xD0")?;
-        list.append(&size.to_be_bytes())?;
-        list.append(b"\0\0\0\x01")?;
-        list.append(bytes.as_slice())?;
-        bytes = list;
+fn in_lists(alloc: Global, bytes: &[u8], count: usize) -> Result<ByteText, Memory> {
+    let mut text = ByteText::empty(alloc);
+    for within in (0..count).rev() {
+        let size = within
+            .saturating_mul(9)
+            .saturating_add(bytes.len())
+            .saturating_add(4);
+        let size = u32::try_from(size).unwrap_or(u32::MAX);
+        let [a, b, c, d] = size.to_be_bytes();
+        text.append(&[0xD0, a, b, c, d, 0, 0, 0, 1])?;
     }
-    Ok(bytes)
+    text.append(bytes)?;
+    Ok(text)
 }
 
-/// A case without a number; whether there is such a verb.
-fn put_plain(alloc: Global, out: &mut String, verb: &str, bytes: &[u8]) -> Result<bool, Memory> {
+/// A case whose bytes begin behind the verb; whether it is one.
+fn put_plain(alloc: Global, out: &mut Printed, verb: &str, rest: &str) -> bool {
+    let Some(bytes) = out.find(bytes_of(alloc, rest)) else {
+        return false;
+    };
     match verb {
-        "read" => put_answer(alloc, out, bytes, 0)?,
+        "read" => put_answer(alloc, out, bytes.as_slice(), 0),
         "cuts" => {
-            put_answer(alloc, out, bytes, 0)?;
-            put_cuts(alloc, out, bytes)?;
+            put_answer(alloc, out, bytes.as_slice(), 0);
+            put_cuts(alloc, out, bytes.as_slice());
         }
-        "sequence" => put_sequence(alloc, out, bytes)?,
-        _ => return Ok(false),
+        "sequence" => put_sequence(alloc, out, bytes.as_slice()),
+        _ => return false,
     }
-    Ok(true)
+    true
 }
 
-/// A case with a number; whether there is such a verb.
-fn put_numbered(
-    alloc: Global,
-    out: &mut String,
-    verb: &str,
-    number: usize,
-    bytes: ByteText,
-) -> Result<bool, Memory> {
-    match verb {
-        "at" => put_answer(alloc, out, bytes.as_slice(), number)?,
-        "lists" => {
-            let bytes = in_lists(alloc, bytes, number)?;
-            put_answer(alloc, out, bytes.as_slice(), 0)?;
-        }
-        _ => return Ok(false),
-    }
-    Ok(true)
-}
-
-/// A case whose bytes begin behind the verb.
-fn put_case(alloc: Global, out: &mut String, verb: &str, rest: &str) -> Result<bool, Memory> {
-    match bytes_of(alloc, rest)? {
-        Some(bytes) => put_plain(alloc, out, verb, bytes.as_slice()),
-        None => Ok(false),
-    }
-}
-
-/// A case whose bytes begin behind a number.
-fn put_further(alloc: Global, out: &mut String, verb: &str, rest: &str) -> Result<bool, Memory> {
-    let Some((number, rest)) = rest.split_once(' ') else {
-        return Ok(false);
+/// A case from an offset; whether it is one.
+fn put_at(alloc: Global, out: &mut Printed, offset: &str, rest: &str) -> bool {
+    let Some(bytes) = out.find(bytes_of(alloc, rest)) else {
+        return false;
     };
-    let Ok(number) = number.parse::<usize>() else {
-        return Ok(false);
-    };
-    match bytes_of(alloc, rest)? {
-        Some(bytes) => put_numbered(alloc, out, verb, number, bytes),
-        None => Ok(false),
-    }
+    let offset = offset.parse().unwrap_or(usize::MAX);
+    put_answer(alloc, out, bytes.as_slice(), offset);
+    true
 }
 
-/// A value, and what is written of it.
-fn put_spelled(alloc: Global, out: &mut String, value: &Value10) -> Result<(), Memory> {
-    put_notation(alloc, out, 18, value)?;
-    match spelling_of(alloc, value)? {
-        None => out.push_str(" | -")?,
-        Some(text) => {
-            out.push_str(" |")?;
-            put_bytes(out, text.as_slice())?;
-        }
+/// A case inside so many lists; whether it is one.
+fn put_in_lists(alloc: Global, out: &mut Printed, count: &str, rest: &str) -> bool {
+    let Some(bytes) = out.find(bytes_of(alloc, rest)) else {
+        return false;
+    };
+    let count = count.parse().unwrap_or(0usize);
+    if let Some(bytes) = out.take(in_lists(alloc, bytes.as_slice(), count)) {
+        put_answer(alloc, out, bytes.as_slice(), 0);
     }
-    Ok(())
+    true
 }
 
 /// A value that is built from words, and what is written of it; whether the words are right.
-fn put_built(alloc: Global, out: &mut String, words: &str) -> Result<bool, Memory> {
-    let Some(value) = built(alloc, words)? else {
-        return Ok(false);
+fn put_built(alloc: Global, out: &mut Printed, words: &str) -> bool {
+    let Some(value) = out.find(built(alloc, words)) else {
+        return false;
     };
-    let put = put_spelled(alloc, out, &value);
-    drop(value);
-    put?;
-    Ok(true)
+    put_notation(alloc, out, 18, &value);
+    out.put_written(written(alloc, &value), BEFORE.len(), b"");
+    true
 }
 
 /// A case of values; whether it is one.
-pub fn put_line(alloc: Global, out: &mut String, line: &str) -> Result<bool, Memory> {
+pub fn put_line(alloc: Global, out: &mut Printed, line: &str) -> bool {
     let (verb, rest) = line.split_once(' ').unwrap_or((line, ""));
+    let (number, further) = rest.split_once(' ').unwrap_or((rest, ""));
     match verb {
         "codes" => {
-            put_codes(alloc, out)?;
-            Ok(true)
+            put_codes(alloc, out);
+            true
         }
-        "at" | "lists" => put_further(alloc, out, verb, rest),
+        "at" => put_at(alloc, out, number, further),
+        "lists" => put_in_lists(alloc, out, number, further),
         "write" => put_built(alloc, out, rest),
-        _ => put_case(alloc, out, verb, rest),
+        _ => put_plain(alloc, out, verb, rest),
     }
 }
