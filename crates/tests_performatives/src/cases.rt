@@ -2,7 +2,7 @@
 
 use crate::perfs::put_line;
 use std::alloc::Global;
-use tests_support::Cases;
+use tests_support::{Cases, Printed};
 use wire_base::Memory;
 
 /// The cases of performatives.
@@ -11,11 +11,9 @@ pub struct CasesOfPerfs;
 
 impl Cases for CasesOfPerfs {
     fn answer(&mut self, alloc: Global, line: &str) -> Result<Option<String>, Memory> {
-        let mut out = String::new(alloc);
-        if !put_line(alloc, &mut out, line)? {
-            return Ok(None);
-        }
-        out.push_str("\n")?;
-        Ok(Some(out))
+        let mut out = Printed::new(alloc);
+        let is_case = put_line(alloc, &mut out, line);
+        out.put("\n");
+        out.end_if(is_case)
     }
 }

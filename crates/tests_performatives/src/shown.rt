@@ -1,198 +1,236 @@
 //! Performatives as they are printed: as `Debug` has them, but for the values that they keep as
-//! bytes, which are printed as the values that they are.
+//! bytes, which are printed as the values that they are. So each performative that keeps some is
+//! shown by a struct of its name.
 
-use performatives_10::{Attach, Begin, Flow, Open, Perf, Source10, Target10};
+use performatives_10 as perfs;
+use performatives_10::Perf;
 use std::alloc::Global;
+use std::fmt;
+use tests_support::Printed;
 use types_10::Spelling10;
-use wire_base::Memory;
+use wire_base::ByteText;
 
 /// A value that is kept as bytes, or that there is none.
-fn put_kept(
+#[derive(Clone, Copy)]
+struct Kept<'a> {
     alloc: Global,
-    out: &mut String,
-    name: &str,
-    kept: &Option<Spelling10>,
-) -> Result<(), Memory> {
-    let Some(kept) = kept else {
-        write!(out, ", {name}: None")?;
-        return Ok(());
-    };
-    let value = kept.spelled().read(alloc)?;
-    let put = write!(out, ", {name}: Some({value:?})");
-    drop(value);
-    Ok(put?)
+    value: &'a Option<Spelling10>,
 }
 
-fn put_open(alloc: Global, out: &mut String, open: &Open) -> Result<(), Memory> {
-    write!(out, "Open(Open {{ container_id: {:?}", open.container_id)?;
-    write!(out, ", hostname: {:?}", open.hostname)?;
-    write!(out, ", max_frame_size: {}", open.max_frame_size)?;
-    write!(out, ", channel_max: {}", open.channel_max)?;
-    write!(out, ", idle_time_out: {:?}", open.idle_time_out)?;
-    put_kept(alloc, out, "outgoing_locales", &open.outgoing_locales)?;
-    put_kept(alloc, out, "incoming_locales", &open.incoming_locales)?;
-    put_kept(
-        alloc,
-        out,
-        "offered_capabilities",
-        &open.offered_capabilities,
-    )?;
-    put_kept(
-        alloc,
-        out,
-        "desired_capabilities",
-        &open.desired_capabilities,
-    )?;
-    put_kept(alloc, out, "properties", &open.properties)?;
-    out.push_str(" })")?;
-    Ok(())
+impl<'a> fmt::Debug for Kept<'a> {
+    fn fmt<W: fmt::Write>(&self, f: &mut fmt::Formatter<W>) -> fmt::Result {
+        let Some(value) = self.value else {
+            return f.write_str("None");
+        };
+        match value.spelled().read(self.alloc) {
+            Ok(value) => {
+                let put = write!(f, "Some({value:?})");
+                drop(value);
+                put
+            }
+            Err(_) => Err(fmt::Error),
+        }
+    }
 }
 
-fn put_begin(alloc: Global, out: &mut String, begin: &Begin) -> Result<(), Memory> {
-    write!(
-        out,
-        "Begin(Begin {{ remote_channel: {:?}",
-        begin.remote_channel
-    )?;
-    write!(out, ", next_outgoing_id: {}", begin.next_outgoing_id)?;
-    write!(out, ", incoming_window: {}", begin.incoming_window)?;
-    write!(out, ", outgoing_window: {}", begin.outgoing_window)?;
-    write!(out, ", handle_max: {}", begin.handle_max)?;
-    put_kept(
-        alloc,
-        out,
-        "offered_capabilities",
-        &begin.offered_capabilities,
-    )?;
-    put_kept(
-        alloc,
-        out,
-        "desired_capabilities",
-        &begin.desired_capabilities,
-    )?;
-    put_kept(alloc, out, "properties", &begin.properties)?;
-    out.push_str(" })")?;
-    Ok(())
+/// A value that is kept as bytes, as it is shown.
+fn spelled(alloc: Global, value: &Option<Spelling10>) -> Kept<'_> {
+    Kept { alloc, value }
 }
 
-fn put_source(alloc: Global, out: &mut String, source: &Option<Source10>) -> Result<(), Memory> {
-    let Some(source) = source else {
-        out.push_str(", source: None")?;
-        return Ok(());
-    };
-    write!(
-        out,
-        ", source: Some(Source10 {{ address: {:?}",
-        source.address
-    )?;
-    write!(out, ", durable: {:?}", source.durable)?;
-    write!(out, ", expiry_policy: {:?}", source.expiry_policy)?;
-    write!(out, ", timeout: {:?}", source.timeout)?;
-    write!(out, ", dynamic: {:?}", source.dynamic)?;
-    put_kept(
-        alloc,
-        out,
-        "dynamic_node_properties",
-        &source.dynamic_node_properties,
-    )?;
-    write!(out, ", distribution_mode: {:?}", source.distribution_mode)?;
-    put_kept(alloc, out, "filter", &source.filter)?;
-    put_kept(alloc, out, "default_outcome", &source.default_outcome)?;
-    put_kept(alloc, out, "outcomes", &source.outcomes)?;
-    put_kept(alloc, out, "capabilities", &source.capabilities)?;
-    out.push_str(" })")?;
-    Ok(())
+#[derive(Clone, Copy, Debug)]
+struct Open<'a> {
+    container_id: &'a ByteText,
+    hostname: &'a Option<ByteText>,
+    max_frame_size: u32,
+    channel_max: u16,
+    idle_time_out: Option<u32>,
+    outgoing_locales: Kept<'a>,
+    incoming_locales: Kept<'a>,
+    offered_capabilities: Kept<'a>,
+    desired_capabilities: Kept<'a>,
+    properties: Kept<'a>,
 }
 
-fn put_target(alloc: Global, out: &mut String, target: &Option<Target10>) -> Result<(), Memory> {
-    let Some(target) = target else {
-        out.push_str(", target: None")?;
-        return Ok(());
-    };
-    write!(
-        out,
-        ", target: Some(Target10 {{ address: {:?}",
-        target.address
-    )?;
-    write!(out, ", durable: {:?}", target.durable)?;
-    write!(out, ", expiry_policy: {:?}", target.expiry_policy)?;
-    write!(out, ", timeout: {:?}", target.timeout)?;
-    write!(out, ", dynamic: {:?}", target.dynamic)?;
-    put_kept(
-        alloc,
-        out,
-        "dynamic_node_properties",
-        &target.dynamic_node_properties,
-    )?;
-    put_kept(alloc, out, "capabilities", &target.capabilities)?;
-    out.push_str(" })")?;
-    Ok(())
+fn open_of(alloc: Global, open: &perfs::Open) -> Open<'_> {
+    Open {
+        container_id: &open.container_id,
+        hostname: &open.hostname,
+        max_frame_size: open.max_frame_size,
+        channel_max: open.channel_max,
+        idle_time_out: open.idle_time_out,
+        outgoing_locales: spelled(alloc, &open.outgoing_locales),
+        incoming_locales: spelled(alloc, &open.incoming_locales),
+        offered_capabilities: spelled(alloc, &open.offered_capabilities),
+        desired_capabilities: spelled(alloc, &open.desired_capabilities),
+        properties: spelled(alloc, &open.properties),
+    }
 }
 
-fn put_attach(alloc: Global, out: &mut String, attach: &Attach) -> Result<(), Memory> {
-    write!(out, "Attach(Attach {{ name: {:?}", attach.name)?;
-    write!(out, ", handle: {}", attach.handle)?;
-    write!(out, ", role: {}", attach.role)?;
-    write!(out, ", snd_settle_mode: {}", attach.snd_settle_mode)?;
-    write!(out, ", rcv_settle_mode: {}", attach.rcv_settle_mode)?;
-    put_source(alloc, out, &attach.source)?;
-    put_target(alloc, out, &attach.target)?;
-    put_kept(alloc, out, "unsettled", &attach.unsettled)?;
-    write!(
-        out,
-        ", incomplete_unsettled: {}",
-        attach.incomplete_unsettled
-    )?;
-    write!(
-        out,
-        ", initial_delivery_count: {:?}",
-        attach.initial_delivery_count
-    )?;
-    write!(out, ", max_message_size: {:?}", attach.max_message_size)?;
-    put_kept(
-        alloc,
-        out,
-        "offered_capabilities",
-        &attach.offered_capabilities,
-    )?;
-    put_kept(
-        alloc,
-        out,
-        "desired_capabilities",
-        &attach.desired_capabilities,
-    )?;
-    put_kept(alloc, out, "properties", &attach.properties)?;
-    out.push_str(" })")?;
-    Ok(())
+#[derive(Clone, Copy, Debug)]
+struct Begin<'a> {
+    remote_channel: Option<u16>,
+    next_outgoing_id: u32,
+    incoming_window: u32,
+    outgoing_window: u32,
+    handle_max: u32,
+    offered_capabilities: Kept<'a>,
+    desired_capabilities: Kept<'a>,
+    properties: Kept<'a>,
 }
 
-fn put_flow(alloc: Global, out: &mut String, flow: &Flow) -> Result<(), Memory> {
-    write!(
-        out,
-        "Flow(Flow {{ next_incoming_id: {:?}",
-        flow.next_incoming_id
-    )?;
-    write!(out, ", incoming_window: {}", flow.incoming_window)?;
-    write!(out, ", next_outgoing_id: {}", flow.next_outgoing_id)?;
-    write!(out, ", outgoing_window: {}", flow.outgoing_window)?;
-    write!(out, ", handle: {:?}", flow.handle)?;
-    write!(out, ", delivery_count: {:?}", flow.delivery_count)?;
-    write!(out, ", link_credit: {:?}", flow.link_credit)?;
-    write!(out, ", available: {:?}", flow.available)?;
-    write!(out, ", drain: {}", flow.drain)?;
-    write!(out, ", echo: {}", flow.echo)?;
-    put_kept(alloc, out, "properties", &flow.properties)?;
-    out.push_str(" })")?;
-    Ok(())
+fn begin_of(alloc: Global, begin: &perfs::Begin) -> Begin<'_> {
+    Begin {
+        remote_channel: begin.remote_channel,
+        next_outgoing_id: begin.next_outgoing_id,
+        incoming_window: begin.incoming_window,
+        outgoing_window: begin.outgoing_window,
+        handle_max: begin.handle_max,
+        offered_capabilities: spelled(alloc, &begin.offered_capabilities),
+        desired_capabilities: spelled(alloc, &begin.desired_capabilities),
+        properties: spelled(alloc, &begin.properties),
+    }
+}
+
+#[derive(Clone, Copy, Debug)]
+struct Source10<'a> {
+    address: &'a Option<ByteText>,
+    durable: Option<u32>,
+    expiry_policy: &'a Option<ByteText>,
+    timeout: Option<u32>,
+    dynamic: Option<bool>,
+    dynamic_node_properties: Kept<'a>,
+    distribution_mode: &'a Option<ByteText>,
+    filter: Kept<'a>,
+    default_outcome: Kept<'a>,
+    outcomes: Kept<'a>,
+    capabilities: Kept<'a>,
+}
+
+fn source_of(alloc: Global, source: &Option<perfs::Source10>) -> Option<Source10<'_>> {
+    let source = source.as_ref()?;
+    Some(Source10 {
+        address: &source.address,
+        durable: source.durable,
+        expiry_policy: &source.expiry_policy,
+        timeout: source.timeout,
+        dynamic: source.dynamic,
+        dynamic_node_properties: spelled(alloc, &source.dynamic_node_properties),
+        distribution_mode: &source.distribution_mode,
+        filter: spelled(alloc, &source.filter),
+        default_outcome: spelled(alloc, &source.default_outcome),
+        outcomes: spelled(alloc, &source.outcomes),
+        capabilities: spelled(alloc, &source.capabilities),
+    })
+}
+
+#[derive(Clone, Copy, Debug)]
+struct Target10<'a> {
+    address: &'a Option<ByteText>,
+    durable: Option<u32>,
+    expiry_policy: &'a Option<ByteText>,
+    timeout: Option<u32>,
+    dynamic: Option<bool>,
+    dynamic_node_properties: Kept<'a>,
+    capabilities: Kept<'a>,
+}
+
+fn target_of(alloc: Global, target: &Option<perfs::Target10>) -> Option<Target10<'_>> {
+    let target = target.as_ref()?;
+    Some(Target10 {
+        address: &target.address,
+        durable: target.durable,
+        expiry_policy: &target.expiry_policy,
+        timeout: target.timeout,
+        dynamic: target.dynamic,
+        dynamic_node_properties: spelled(alloc, &target.dynamic_node_properties),
+        capabilities: spelled(alloc, &target.capabilities),
+    })
+}
+
+#[derive(Clone, Copy, Debug)]
+struct Attach<'a> {
+    name: &'a ByteText,
+    handle: u32,
+    role: bool,
+    snd_settle_mode: u8,
+    rcv_settle_mode: u8,
+    source: Option<Source10<'a>>,
+    target: Option<Target10<'a>>,
+    unsettled: Kept<'a>,
+    incomplete_unsettled: bool,
+    initial_delivery_count: Option<u32>,
+    max_message_size: Option<u64>,
+    offered_capabilities: Kept<'a>,
+    desired_capabilities: Kept<'a>,
+    properties: Kept<'a>,
+}
+
+fn attach_of(alloc: Global, attach: &perfs::Attach) -> Attach<'_> {
+    Attach {
+        name: &attach.name,
+        handle: attach.handle,
+        role: attach.role,
+        snd_settle_mode: attach.snd_settle_mode,
+        rcv_settle_mode: attach.rcv_settle_mode,
+        source: source_of(alloc, &attach.source),
+        target: target_of(alloc, &attach.target),
+        unsettled: spelled(alloc, &attach.unsettled),
+        incomplete_unsettled: attach.incomplete_unsettled,
+        initial_delivery_count: attach.initial_delivery_count,
+        max_message_size: attach.max_message_size,
+        offered_capabilities: spelled(alloc, &attach.offered_capabilities),
+        desired_capabilities: spelled(alloc, &attach.desired_capabilities),
+        properties: spelled(alloc, &attach.properties),
+    }
+}
+
+#[derive(Clone, Copy, Debug)]
+struct Flow<'a> {
+    next_incoming_id: Option<u32>,
+    incoming_window: u32,
+    next_outgoing_id: u32,
+    outgoing_window: u32,
+    handle: Option<u32>,
+    delivery_count: Option<u32>,
+    link_credit: Option<u32>,
+    available: Option<u32>,
+    drain: bool,
+    echo: bool,
+    properties: Kept<'a>,
+}
+
+fn flow_of(alloc: Global, flow: &perfs::Flow) -> Flow<'_> {
+    Flow {
+        next_incoming_id: flow.next_incoming_id,
+        incoming_window: flow.incoming_window,
+        next_outgoing_id: flow.next_outgoing_id,
+        outgoing_window: flow.outgoing_window,
+        handle: flow.handle,
+        delivery_count: flow.delivery_count,
+        link_credit: flow.link_credit,
+        available: flow.available,
+        drain: flow.drain,
+        echo: flow.echo,
+        properties: spelled(alloc, &flow.properties),
+    }
+}
+
+/// A value between brackets, behind its name.
+fn put_named<T: fmt::Debug + Copy>(out: &mut Printed, name: &str, value: T) {
+    out.put(name);
+    out.put("(");
+    out.debug(value);
+    out.put(")");
 }
 
 /// A performative.
-pub fn put_shown(alloc: Global, out: &mut String, perf: &Perf) -> Result<(), Memory> {
+pub fn put_shown(alloc: Global, out: &mut Printed, perf: &Perf) {
     match perf {
-        Perf::Open(open) => put_open(alloc, out, open),
-        Perf::Begin(begin) => put_begin(alloc, out, begin),
-        Perf::Attach(attach) => put_attach(alloc, out, attach),
-        Perf::Flow(flow) => put_flow(alloc, out, flow),
-        _ => Ok(write!(out, "{perf:?}")?),
+        Perf::Open(open) => put_named(out, "Open", open_of(alloc, open)),
+        Perf::Begin(begin) => put_named(out, "Begin", begin_of(alloc, begin)),
+        Perf::Attach(attach) => put_named(out, "Attach", attach_of(alloc, attach)),
+        Perf::Flow(flow) => put_named(out, "Flow", flow_of(alloc, flow)),
+        _ => out.debug(perf),
     }
 }
