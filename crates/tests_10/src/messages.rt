@@ -101,29 +101,6 @@ fn put_seen(alloc: Global, out: &mut Printed, message: &Message10) {
     put_body(out, &message.body);
 }
 
-/// The message that fills bytes, or a fault and its place. Answers the message.
-fn put_read(alloc: Global, out: &mut Printed, bytes: &[u8]) -> Option<Message10> {
-    match out.take(read_message(alloc, bytes))? {
-        Ok(message) => {
-            put_seen(alloc, out, &message);
-            Some(message)
-        }
-        Err(found) => {
-            out.debug(found.fault);
-            out.put(" ");
-            out.show(found.at);
-            None
-        }
-    }
-}
-
-/// The same as a text of its own.
-fn text_of(alloc: Global, bytes: &[u8]) -> Result<String, Memory> {
-    let mut out = Printed::new(alloc);
-    drop(put_read(alloc, &mut out, bytes));
-    out.end()
-}
-
 /// The bytes that are written of a message, behind others; `None` where it can't be written.
 fn written(alloc: Global, message: &Message10) -> Result<Option<ByteText>, Memory> {
     if !can_be_written(alloc, message)? {
@@ -134,11 +111,29 @@ fn written(alloc: Global, message: &Message10) -> Result<Option<ByteText>, Memor
     Ok(Some(text))
 }
 
-/// The message that fills bytes, and what is written of it.
-fn put_case(alloc: Global, out: &mut Printed, bytes: &[u8]) {
-    if let Some(message) = put_read(alloc, out, bytes) {
-        out.put_written(written(alloc, &message), BEFORE.len(), bytes);
+/// The message that fills bytes, also what is written of it if so asked, or a fault and its place.
+fn put_read(alloc: Global, out: &mut Printed, bytes: &[u8], is_whole: bool) {
+    match out.take(read_message(alloc, bytes)) {
+        Some(Ok(message)) => {
+            put_seen(alloc, out, &message);
+            if is_whole {
+                out.put_written(written(alloc, &message), BEFORE.len(), bytes);
+            }
+            drop(message);
+        }
+        Some(Err(found)) => {
+            out.debug(found.fault);
+            out.put_number("", found.at);
+        }
+        None => {}
     }
+}
+
+/// The message that fills bytes, or a fault and its place, as a text of its own.
+fn text_of(alloc: Global, bytes: &[u8]) -> Result<String, Memory> {
+    let mut out = Printed::new(alloc);
+    put_read(alloc, &mut out, bytes, false);
+    out.end()
 }
 
 /// An answer so many times.
@@ -184,7 +179,7 @@ pub fn put_message_line(alloc: Global, out: &mut Printed, line: &str) -> bool {
     let Some(bytes) = out.find(bytes_of(alloc, words)) else {
         return false;
     };
-    put_case(alloc, out, bytes.as_slice());
+    put_read(alloc, out, bytes.as_slice(), true);
     if cut {
         put_cuts(alloc, out, bytes.as_slice());
     }

@@ -54,6 +54,7 @@ fn put_value_at(
                 BEFORE.len(),
                 part(bytes, from, after),
             );
+            drop(value);
             Some(after)
         }
         Err(found) => {
@@ -225,6 +226,7 @@ fn put_built(alloc: Global, out: &mut Printed, words: &str) -> bool {
     };
     put_notation(alloc, out, 18, &value);
     out.put_written(written(alloc, &value), BEFORE.len(), b"");
+    drop(value);
     true
 }
 
