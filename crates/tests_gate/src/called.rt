@@ -2,15 +2,14 @@
 
 ghost use Rattle.std.specs.Prelude.{◌≡◌, [], IfOk};
 
-use crate::runs::{Kind, LOG_ROOM, entries_of, kind_of};
+use crate::runs::{Kind, LOG_ROOM, add_calls, kind_of};
 use crate::scenario::{Scenario, Way, faults, script_of};
-use crate::telling::put_number;
 use gate_capture::{next_entry, next_words};
 use gate_command::{CaptureSink, Status, gateway};
 use gate_outside::{Entries, MemorySink, MemorySource, Ports, ScriptPorts, Sink, Source};
 use std::alloc::Global;
-use tests_support::part;
-use wire_base::{ByteText, Memory, Stop};
+use tests_support::{Printed, part};
+use wire_base::{ByteText, ItemList, Memory, Stop};
 
 /// What the gateway did for some words.
 #[derive(Drop)]
@@ -42,9 +41,14 @@ fn status_of<P: Ports, S: Source, K: Sink, C: Sink>(
 
 /// A source of these bytes, of which the read fails that the scenario tells.
 fn source_of(alloc: Global, scenario: &Scenario, input: &[u8]) -> Result<MemorySource, Memory> {
-    let input = ByteText::copy_of(alloc, input)?;
     let fails = faults(alloc, scenario.numbers.unread)?;
-    Ok(MemorySource::new(input, fails))
+    match ByteText::copy_of(alloc, input) {
+        Ok(input) => Ok(MemorySource::new(input, fails)),
+        Err(memory) => {
+            drop(fails);
+            Err(memory)
+        }
+    }
 }
 
 /// A sink with room for so many bytes, of which the write with this number fails, if one is told.
@@ -61,50 +65,93 @@ fn ports_of(alloc: Global, scenario: &Scenario) -> Result<ScriptPorts, Memory>
     ScriptPorts::new(alloc, script, LOG_ROOM, scenario.numbers.log)
 }
 
-/// What a call did that ended with this status.
-fn called_of(
-    alloc: Global,
-    status: Status,
-    report: &MemorySink,
-    capture: &MemorySink,
-    ports: &ScriptPorts,
-) -> Result<Called, Memory> {
-    Ok(Called {
-        status,
-        report: ByteText::copy_of(alloc, report.held())?,
-        capture: ByteText::copy_of(alloc, capture.held())?,
-        calls: entries_of(alloc, ports.log())?,
-    })
-}
-
-/// Calls the gateway with these bytes as its input. The capture has room for so many bytes, and the
-/// write with this number fails, if one is told.
-fn call_with(
-    alloc: Global,
-    scenario: &Scenario,
-    words: &Vec<String>,
-    input: &[u8],
+/// A call of the gateway for some words, with bytes as its input.
+#[derive(Clone, Copy)]
+struct Call<'a> {
+    scenario: &'a Scenario,
+    words: &'a Vec<String>,
+    input: &'a [u8],
+    /// The room of the capture, and the one of its writes that fails, if one is told.
     room: usize,
     lost: Option<u64>,
-) -> Result<Called, Memory> {
-    let mut source = source_of(alloc, scenario, input)?;
-    let mut report = sink_of(alloc, scenario.numbers.report, None)?;
-    let mut capture = CaptureSink {
-        sink: sink_of(alloc, room, lost)?,
-    };
-    let mut ports = ports_of(alloc, scenario)?;
-    let status = status_of(
-        alloc,
-        words,
-        &mut ports,
-        &mut source,
-        &mut report,
-        &mut capture,
-    );
-    called_of(alloc, status, &report, &capture.sink, &ports)
 }
 
-/// The same with the input of the scenario.
+/// What a call does over its ports.
+fn call_ports(
+    alloc: Global,
+    call: &Call,
+    source: &mut MemorySource,
+    report: &mut MemorySink,
+    capture: &mut CaptureSink<MemorySink>,
+    called: &mut Called,
+) -> Result<(), Memory> {
+    let mut ports = ports_of(alloc, call.scenario)?;
+    called.status = status_of(alloc, call.words, &mut ports, source, report, capture);
+    let added = add_calls(alloc, &mut called.calls, ports.log());
+    drop(ports);
+    added
+}
+
+/// The same with what the sink for a capture then holds.
+fn call_captured(
+    alloc: Global,
+    call: &Call,
+    source: &mut MemorySource,
+    report: &mut MemorySink,
+    called: &mut Called,
+) -> Result<(), Memory> {
+    let mut capture = CaptureSink {
+        sink: sink_of(alloc, call.room, call.lost)?,
+    };
+    let done = call_ports(alloc, call, source, report, &mut capture, called);
+    let held = called.capture.append(capture.sink.held());
+    drop(capture);
+    done?;
+    held
+}
+
+/// The same with what out then holds.
+fn call_reported(
+    alloc: Global,
+    call: &Call,
+    source: &mut MemorySource,
+    called: &mut Called,
+) -> Result<(), Memory> {
+    let mut report = sink_of(alloc, call.scenario.numbers.report, None)?;
+    let done = call_captured(alloc, call, source, &mut report, called);
+    let held = called.report.append(report.held());
+    drop(report);
+    done?;
+    held
+}
+
+/// All that a call does.
+fn call_into(alloc: Global, call: &Call, called: &mut Called) -> Result<(), Memory> {
+    let mut source = source_of(alloc, call.scenario, call.input)?;
+    let done = call_reported(alloc, call, &mut source, called);
+    drop(source);
+    done
+}
+
+/// What a call did.
+fn called_by(alloc: Global, call: &Call) -> Result<Called, Memory> {
+    let mut called = Called {
+        status: Status::Memory,
+        report: ByteText::empty(alloc),
+        capture: ByteText::empty(alloc),
+        calls: ItemList::empty(alloc),
+    };
+    match call_into(alloc, call, &mut called) {
+        Ok(()) => Ok(called),
+        Err(memory) => {
+            drop(called);
+            Err(memory)
+        }
+    }
+}
+
+/// Calls the gateway with the input of the scenario. The capture has room for so many bytes, and the
+/// write with this number fails, if one is told.
 pub fn call_gateway(
     alloc: Global,
     scenario: &Scenario,
@@ -112,24 +159,36 @@ pub fn call_gateway(
     room: usize,
     lost: Option<u64>,
 ) -> Result<Called, Memory> {
-    let input = scenario.input.as_slice();
-    call_with(alloc, scenario, words, input, room, lost)
+    let call = Call {
+        scenario,
+        words,
+        input: scenario.input.as_slice(),
+        room,
+        lost,
+    };
+    called_by(alloc, &call)
 }
 
-/// Calls the gateway for words that ask for a capture, and then to replay it: what the second call
-/// did, and how many calls the first made.
-pub fn call_again(
-    alloc: Global,
-    scenario: &Scenario,
-    words: &Vec<String>,
-) -> Result<(usize, Called), Memory> {
-    let room = scenario.numbers.capture;
-    let first = call_gateway(alloc, scenario, words, room, None)?;
-    let mut replay = Vec::new(alloc);
-    replay.push(String::from_str(alloc, "replay")?)?;
-    let capture = first.capture.as_slice();
-    let again = call_with(alloc, scenario, &replay, capture, room, None)?;
-    Ok((first.calls.len(), again))
+/// The words that ask for a replay.
+fn replay_words(alloc: Global) -> Result<Vec<String>, Memory> {
+    let word = String::from_str(alloc, "replay")?;
+    let words = Vec::from_array(alloc, [word])?;
+    Ok(words)
+}
+
+/// Calls the gateway to replay a capture.
+pub fn call_replay(alloc: Global, scenario: &Scenario, capture: &[u8]) -> Result<Called, Memory> {
+    let words = replay_words(alloc)?;
+    let call = Call {
+        scenario,
+        words: &words,
+        input: capture,
+        room: scenario.numbers.capture,
+        lost: None,
+    };
+    let called = called_by(alloc, &call);
+    drop(words);
+    called
 }
 
 /// How many entries stand whole in the front of a capture; `None` where the start doesn't.
@@ -140,7 +199,10 @@ fn whole_entries(alloc: Global, bytes: &[u8]) -> Result<Option<usize>, Memory> {
     let mut count = 0usize;
     for _ in 0..bytes.len() {
         match next_entry(alloc, bytes.len(), rest) {
-            Ok((_, after)) => rest = after,
+            Ok((entry, after)) => {
+                drop(entry);
+                rest = after;
+            }
             Err(Stop::Fault(_)) => return Ok(Some(count)),
             Err(Stop::Memory) => return Err(Memory),
         }
@@ -189,50 +251,91 @@ fn room_is_right(
     room: usize,
 ) -> Result<bool, Memory> {
     let call = call_gateway(alloc, scenario, words, room, None)?;
-    Ok(call.capture.as_slice().len() == room && is_front(alloc, &call, whole)?)
+    let is_full = call.capture.as_slice().len() == room;
+    let is_front = is_front(alloc, &call, whole);
+    drop(call);
+    Ok(is_full && is_front?)
 }
 
-/// Whether there is such a write of the capture, so that the call ends otherwise where it fails,
-/// and whether that call is as it must be.
+/// What became of a write of the capture that was to fail.
+#[derive(Clone, Copy)]
+struct Lost {
+    /// There is such a write, so that the call ends otherwise.
+    is_there: bool,
+    /// The call is as it must be.
+    is_right: bool,
+}
+
+/// What became of it.
+fn lost_by(alloc: Global, call: &Called, whole: &Called) -> Result<Lost, Memory> {
+    let is_there = call.status != whole.status;
+    let is_right = !is_there || is_front(alloc, call, whole)?;
+    Ok(Lost { is_there, is_right })
+}
+
+/// The same of the write with this number.
 fn lost_write(
     alloc: Global,
     scenario: &Scenario,
     words: &Vec<String>,
     whole: &Called,
     write: usize,
-) -> Result<(bool, bool), Memory> {
+) -> Result<Lost, Memory> {
     let room = scenario.numbers.capture;
     let call = call_gateway(alloc, scenario, words, room, Some(write as u64))?;
-    if call.status == whole.status {
-        return Ok((false, true));
+    let lost = lost_by(alloc, &call, whole);
+    drop(call);
+    lost
+}
+
+/// What is wrong where the capture has room for so many bytes, or its write with this number fails;
+/// the count of its writes so far, of which each is to be there up to the last.
+fn put_failures(
+    out: &mut Printed,
+    alloc: Global,
+    scenario: &Scenario,
+    words: &Vec<String>,
+    whole: &Called,
+    at: usize,
+    writes: usize,
+) -> usize {
+    if out.take(room_is_right(alloc, scenario, words, whole, at)) != Some(true) {
+        out.put_number(", not room", at);
     }
-    Ok((true, is_front(alloc, &call, whole)?))
+    let Some(lost) = out.take(lost_write(alloc, scenario, words, whole, at)) else {
+        return writes;
+    };
+    if !lost.is_right || (lost.is_there && writes != at) {
+        out.put_number(", not write", at);
+    }
+    writes.saturating_add(usize::from(lost.is_there))
 }
 
 /// The capture fails at each of its writes, and has room for fewer bytes than it needs: how many
 /// bytes and writes it has, and what broke a rule.
-pub fn put_uncaptured(
+fn put_all_failures(
+    out: &mut Printed,
     alloc: Global,
     scenario: &Scenario,
     words: &Vec<String>,
-    out: &mut String,
-) -> Result<(), Memory> {
-    let whole = call_gateway(alloc, scenario, words, scenario.numbers.capture, None)?;
+    whole: &Called,
+) {
     let size = whole.capture.as_slice().len();
     let mut writes = 0usize;
-    put_number(out, "uncaptured:", size)?;
-    out.push_str(" bytes")?;
+    out.put_number("uncaptured:", size);
+    out.put(" bytes");
     for k in 0..size {
-        if !room_is_right(alloc, scenario, words, &whole, k)? {
-            put_number(out, ", not room", k)?;
-        }
-        let (is_there, is_right) = lost_write(alloc, scenario, words, &whole, k)?;
-        if !is_right || (is_there && writes != k) {
-            put_number(out, ", not write", k)?;
-        }
-        writes = writes.saturating_add(usize::from(is_there));
+        writes = put_failures(out, alloc, scenario, words, whole, k, writes);
     }
-    put_number(out, ",", writes)?;
-    out.push_str(" writes\n")?;
-    Ok(())
+    out.put_number(",", writes);
+    out.put(" writes\n");
+}
+
+/// The same of the call for these words.
+pub fn put_uncaptured(out: &mut Printed, alloc: Global, scenario: &Scenario, words: &Vec<String>) {
+    let room = scenario.numbers.capture;
+    if let Some(whole) = out.take(call_gateway(alloc, scenario, words, room, None)) {
+        put_all_failures(out, alloc, scenario, words, &whole);
+        drop(whole);
+    }
 }

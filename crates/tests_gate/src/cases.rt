@@ -1,13 +1,13 @@
 //! The lines of the input.
 
-use crate::command::{command_text, setup_of};
+use crate::command::{put_command, setup_of};
 use crate::plays::put_play;
 use crate::runs::Peer;
-use crate::scenario::{Scenario, Sent, Taken};
+use crate::scenario::{Numbers, Scenario, Sent, Taken};
 use gate_outside::End;
 use std::alloc::Global;
-use tests_support::{Cases, Names};
-use wire_base::Memory;
+use tests_support::{Cases, Names, Printed};
+use wire_base::{ByteText, Memory};
 
 /// The names so far, and the scenario that the next play ends.
 #[derive(Drop)]
@@ -26,88 +26,83 @@ impl GateCases {
 }
 
 /// Sets a number of the scenario; whether there is such a one.
-fn set_number(scenario: &mut Scenario, name: &str, number: u32) -> bool {
+fn set_number(numbers: &mut Numbers, name: &str, number: u32) -> bool {
     match name {
-        "pairs" => scenario.numbers.pairs = number,
-        "idles" => scenario.numbers.idles = u64::from(number),
-        "step" => scenario.numbers.step = u64::from(number),
-        "limit" => scenario.numbers.limit = number,
-        "turns" => scenario.numbers.turns = u16::try_from(number).unwrap_or(u16::MAX),
-        "log" => scenario.numbers.log = number as usize,
-        "report" => scenario.numbers.report = number as usize,
-        "capture" => scenario.numbers.capture = number as usize,
-        "lost" => scenario.numbers.lost = Some(u64::from(number)),
-        "unread" => scenario.numbers.unread = Some(u64::from(number)),
-        "fault" => scenario.numbers.fault = Some(u64::from(number)),
+        "pairs" => numbers.pairs = number,
+        "idles" => numbers.idles = u64::from(number),
+        "step" => numbers.step = u64::from(number),
+        "limit" => numbers.limit = number,
+        "turns" => numbers.turns = u16::try_from(number).unwrap_or(u16::MAX),
+        "log" => numbers.log = number as usize,
+        "report" => numbers.report = number as usize,
+        "capture" => numbers.capture = number as usize,
+        "lost" => numbers.lost = Some(u64::from(number)),
+        "unread" => numbers.unread = Some(u64::from(number)),
+        "fault" => numbers.fault = Some(u64::from(number)),
         _ => return false,
     }
     true
 }
 
+/// Adds an item to a list.
+fn add<T: Drop>(out: &mut Printed, list: &mut Vec<T>, item: T) {
+    if list.push(item).is_err() {
+        out.take(Err::<(), Memory>(Memory));
+    }
+}
+
 /// Adds what a peer sends; whether the bytes are told rightly.
 fn add_sent(
-    alloc: Global,
-    names: &Names,
-    scenario: &mut Scenario,
+    out: &mut Printed,
+    bytes: Option<ByteText>,
+    sent: &mut Vec<Sent>,
     peer: Peer,
     after: u64,
     ends: bool,
-    text: &str,
-) -> Result<bool, Memory> {
-    let Some(bytes) = names.joined(alloc, text)? else {
-        return Ok(false);
-    };
-    scenario.sent.push(Sent {
-        peer,
-        after,
-        bytes,
-        ends,
-    })?;
-    Ok(true)
+) -> bool {
+    match bytes {
+        Some(bytes) => {
+            let piece = Sent {
+                peer,
+                after,
+                bytes,
+                ends,
+            };
+            add(out, sent, piece);
+            true
+        }
+        None => false,
+    }
 }
 
 /// Adds how much a peer's writes take; whether these are numbers.
-fn add_taken(scenario: &mut Scenario, peer: Peer, text: &str) -> Result<bool, Memory> {
+fn add_taken(out: &mut Printed, taken: &mut Vec<Taken>, peer: Peer, text: &str) -> bool {
     for word in text.split(' ') {
         let Ok(most) = word.parse::<u32>() else {
-            return Ok(false);
+            return false;
         };
-        scenario.taken.push(Taken { peer, most })?;
+        add(out, taken, Taken { peer, most });
     }
-    Ok(true)
+    true
 }
 
 /// The same over and over, so many times.
-fn add_taken_often(scenario: &mut Scenario, peer: Peer, text: &str) -> Result<bool, Memory> {
-    let Some((count, text)) = text.split_once(' ') else {
-        return Ok(false);
-    };
-    let Ok(count) = count.parse::<u32>() else {
-        return Ok(false);
+fn add_taken_often(out: &mut Printed, taken: &mut Vec<Taken>, peer: Peer, text: &str) -> bool {
+    let Some((count, text)) = numbered(text) else {
+        return false;
     };
     for _ in 0..count {
-        if !add_taken(scenario, peer, text)? {
-            return Ok(false);
+        if !add_taken(out, taken, peer, text) {
+            return false;
         }
     }
-    Ok(true)
+    true
 }
 
-/// Adds what a peer sends once it took so much.
-fn add_waiting(
-    alloc: Global,
-    names: &Names,
-    scenario: &mut Scenario,
-    peer: Peer,
-    text: &str,
-) -> Result<bool, Memory> {
-    let Some((after, text)) = text.split_once(' ') else {
-        return Ok(false);
-    };
-    let Ok(after) = after.parse::<u64>() else {
-        return Ok(false);
-    };
-    add_sent(alloc, names, scenario, peer, after, false, text)
+/// The number that words begin with, and the words behind it.
+fn numbered(text: &str) -> Option<(u64, &str)> {
+    let (number, rest) = text.split_once(' ')?;
+    Some((number.parse().ok()?, rest))
 }
 
 /// The end that words speak of, and the words behind it: the container's where they begin with
@@ -119,101 +114,149 @@ pub fn end_first(words: &str) -> (End, &str) {
     }
 }
 
-/// What a peer does.
+/// Adds what a peer sends once it took so much.
+fn add_waiting(
+    out: &mut Printed,
+    alloc: Global,
+    names: &Names,
+    sent: &mut Vec<Sent>,
+    peer: Peer,
+    text: &str,
+) -> bool {
+    match numbered(text) {
+        Some((after, text)) => {
+            let bytes = out.find(names.joined(alloc, text));
+            add_sent(out, bytes, sent, peer, after, false)
+        }
+        None => false,
+    }
+}
+
+/// Adds what a peer sends at once, and then ends or not.
+fn add_sent_now(
+    out: &mut Printed,
+    alloc: Global,
+    names: &Names,
+    sent: &mut Vec<Sent>,
+    peer: Peer,
+    ends: bool,
+    text: &str,
+) -> bool {
+    let bytes = out.find(names.joined(alloc, text));
+    add_sent(out, bytes, sent, peer, 0, ends)
+}
+
+/// Adds what a peer does; whether it is anything.
 fn add_deed(
+    out: &mut Printed,
     alloc: Global,
     names: &Names,
     scenario: &mut Scenario,
-    pair: u32,
+    peer: Peer,
     deed: &str,
-) -> Result<bool, Memory> {
-    let (end, deed) = end_first(deed);
-    let peer = Peer { pair, end };
+) -> bool {
     let (verb, text) = deed.split_once(' ').unwrap_or((deed, ""));
     match verb {
-        "sends" => add_sent(alloc, names, scenario, peer, 0, false, text),
-        "ends" => add_sent(alloc, names, scenario, peer, 0, true, text),
-        "after" => add_waiting(alloc, names, scenario, peer, text),
-        "takes" => add_taken(scenario, peer, text),
-        "often" => add_taken_often(scenario, peer, text),
-        _ => Ok(false),
+        "sends" => add_sent_now(out, alloc, names, &mut scenario.sent, peer, false, text),
+        "ends" => add_sent_now(out, alloc, names, &mut scenario.sent, peer, true, text),
+        "after" => add_waiting(out, alloc, names, &mut scenario.sent, peer, text),
+        "takes" => add_taken(out, &mut scenario.taken, peer, text),
+        "often" => add_taken_often(out, &mut scenario.taken, peer, text),
+        _ => false,
     }
 }
 
 /// Adds bytes to the input of the gateway; whether they are told rightly.
 fn add_input(
+    out: &mut Printed,
     alloc: Global,
     names: &Names,
-    scenario: &mut Scenario,
+    input: &mut ByteText,
     text: &str,
-) -> Result<bool, Memory> {
-    let Some(bytes) = names.joined(alloc, text)? else {
-        return Ok(false);
-    };
-    scenario.input.append(bytes.as_slice())?;
-    Ok(true)
+) -> bool {
+    match out.find(names.joined(alloc, text)) {
+        Some(bytes) => {
+            out.take(input.append(bytes.as_slice()));
+            true
+        }
+        None => false,
+    }
 }
 
 /// Sets what the pairs share; whether the words tell it.
-fn add_setup(alloc: Global, scenario: &mut Scenario, text: &str) -> Result<bool, Memory> {
-    match setup_of(alloc, text)? {
-        Some(setup) => {
-            scenario.setup = setup;
-            Ok(true)
+fn add_setup(out: &mut Printed, alloc: Global, scenario: &mut Scenario, text: &str) -> bool {
+    match out.find(setup_of(alloc, text)) {
+        Some(mut setup) => {
+            std::mem::swap(&mut scenario.setup, &mut setup);
+            drop(setup);
+            true
         }
-        None => Ok(false),
+        None => false,
     }
 }
 
 /// What a peer does, or a number; whether it is either.
 fn take_other(
+    out: &mut Printed,
     alloc: Global,
     names: &Names,
     scenario: &mut Scenario,
     first: &str,
     rest: &str,
-) -> Result<bool, Memory> {
+) -> bool {
     if let Ok(pair) = first.parse::<u32>() {
-        return add_deed(alloc, names, scenario, pair, rest);
+        let (end, deed) = end_first(rest);
+        return add_deed(out, alloc, names, scenario, Peer { pair, end }, deed);
     }
     match rest.parse::<u32>() {
-        Ok(number) => Ok(set_number(scenario, first, number)),
-        Err(_) => Ok(false),
+        Ok(number) => set_number(&mut scenario.numbers, first, number),
+        Err(_) => false,
     }
 }
 
 /// A line that prints nothing; whether it is one.
 fn take_line(
+    out: &mut Printed,
     alloc: Global,
     names: &mut Names,
     scenario: &mut Scenario,
     line: &str,
-) -> Result<bool, Memory> {
+) -> bool {
     let Some((first, rest)) = line.split_once(' ') else {
-        return Ok(false);
+        return false;
     };
     match first {
-        "name" => names.add(alloc, rest),
-        "input" => add_input(alloc, names, scenario, rest),
-        "setup" => add_setup(alloc, scenario, rest),
-        _ => take_other(alloc, names, scenario, first, rest),
+        "name" => out.take(names.add(alloc, rest)).unwrap_or(false),
+        "input" => add_input(out, alloc, names, &mut scenario.input, rest),
+        "setup" => add_setup(out, alloc, scenario, rest),
+        _ => take_other(out, alloc, names, scenario, first, rest),
+    }
+}
+
+impl GateCases {
+    /// Does what a line that ends the scenario says; whether it is one.
+    fn play(&self, out: &mut Printed, alloc: Global, line: &str) -> bool {
+        put_play(out, alloc, &self.names, &self.scenario, line)
+            || put_command(out, alloc, &self.scenario, line)
+    }
+
+    /// The next scenario begins.
+    fn begin(&mut self, out: &mut Printed, alloc: Global) {
+        if let Some(mut scenario) = out.take(Scenario::new(alloc)) {
+            std::mem::swap(&mut self.scenario, &mut scenario);
+            drop(scenario);
+        }
     }
 }
 
 impl Cases for GateCases {
     fn answer(&mut self, alloc: Global, line: &str) -> Result<Option<String>, Memory> {
-        let mut out = String::new(alloc);
-        if put_play(alloc, &self.names, &self.scenario, line, &mut out)? {
-            self.scenario = Scenario::new(alloc)?;
-            return Ok(Some(out));
+        let mut out = Printed::new(alloc);
+        if self.play(&mut out, alloc, line) {
+            self.begin(&mut out, alloc);
+            return out.end_if(true);
         }
-        if let Some(text) = command_text(alloc, &self.scenario, line)? {
-            self.scenario = Scenario::new(alloc)?;
-            return Ok(Some(text));
-        }
-        if take_line(alloc, &mut self.names, &mut self.scenario, line)? {
-            return Ok(Some(out));
-        }
-        Ok(None)
+        let is_case = take_line(&mut out, alloc, &mut self.names, &mut self.scenario, line);
+        out.end_if(is_case)
     }
 }

@@ -3,10 +3,10 @@
 use crate::cases::end_first;
 use crate::checks::{put_fails, put_unreported};
 use crate::scenario::{Scenario, Way, played};
-use crate::telling::{listing, put_counts, put_reads, told};
+use crate::telling::{put_counts, put_listing, put_reads, put_told};
 use gate_outside::End;
 use std::alloc::Global;
-use tests_support::Names;
+use tests_support::{Names, Printed};
 use wire_base::Memory;
 
 /// A scenario, played in one way, in one line.
@@ -17,138 +17,194 @@ fn line_of(
     way: Way,
     timed: bool,
 ) -> Result<String, Memory> {
-    let run = played(alloc, scenario, way)?;
-    told(alloc, names, &run, timed)
+    let mut line = Printed::new(alloc);
+    if let Some(run) = line.take(played(alloc, scenario, way)) {
+        put_told(&mut line, alloc, names, &run, timed);
+        drop(run);
+    }
+    line.end()
 }
 
-/// Adds a line, where it differs from the one before.
-fn add_line(out: &mut String, last: &mut String, line: String, way: &str) -> Result<(), Memory> {
-    if last.as_str() != line.as_str() {
-        out.push_str(way)?;
-        out.push_str(line.as_str())?;
-        out.push_str("\n")?;
+/// Plays a scenario in one more way; whether its line is another than the last, which it then is.
+fn differs(
+    out: &mut Printed,
+    alloc: Global,
+    names: &Names,
+    scenario: &Scenario,
+    way: Way,
+    last: &mut String,
+) -> bool {
+    let Some(mut line) = out.take(line_of(alloc, names, scenario, way, false)) else {
+        return false;
+    };
+    let differs = last.as_str() != line.as_str();
+    std::mem::swap(last, &mut line);
+    drop(line);
+    differs
+}
+
+/// A line and its end.
+fn put_whole_line(out: &mut Printed, line: &str) {
+    out.put(line);
+    out.put("\n");
+}
+
+/// A scenario in one more way, where its line is another than the last.
+fn put_way(
+    out: &mut Printed,
+    alloc: Global,
+    names: &Names,
+    scenario: &Scenario,
+    way: Way,
+    title: &str,
+    last: &mut String,
+) {
+    if differs(out, alloc, names, scenario, way, last) {
+        out.put(title);
+        put_whole_line(out, last.as_str());
     }
-    *last = line;
-    Ok(())
 }
 
 /// A scenario in three ways: one line where all are the same.
-fn put_ways(
-    alloc: Global,
-    names: &Names,
-    scenario: &Scenario,
-    end: End,
-    out: &mut String,
-) -> Result<(), Memory> {
+fn put_ways(out: &mut Printed, alloc: Global, names: &Names, scenario: &Scenario, end: End) {
     let mut last = String::new(alloc);
-    let line = line_of(alloc, names, scenario, Way::Units, false)?;
-    add_line(out, &mut last, line, "")?;
-    let line = line_of(alloc, names, scenario, Way::Whole(end), false)?;
-    add_line(out, &mut last, line, "in one piece: ")?;
-    let line = line_of(alloc, names, scenario, Way::Singly(end), false)?;
-    add_line(out, &mut last, line, "byte by byte: ")
+    put_way(out, alloc, names, scenario, Way::Units, "", &mut last);
+    let whole = Way::Whole(end);
+    put_way(
+        out,
+        alloc,
+        names,
+        scenario,
+        whole,
+        "in one piece: ",
+        &mut last,
+    );
+    let singly = Way::Singly(end);
+    put_way(
+        out,
+        alloc,
+        names,
+        scenario,
+        singly,
+        "byte by byte: ",
+        &mut last,
+    );
+    drop(last);
 }
 
 /// A scenario cut at each place: one line where all are the same.
-fn put_cuts(
+fn put_cuts(out: &mut Printed, alloc: Global, names: &Names, scenario: &Scenario, end: End) {
+    let size = scenario.size_at_once(end);
+    let mut last = String::new(alloc);
+    for at in 0..size {
+        if differs(
+            out,
+            alloc,
+            names,
+            scenario,
+            Way::Cut(end, at, size),
+            &mut last,
+        ) {
+            out.put_number("from", at);
+            out.put(": ");
+            put_whole_line(out, last.as_str());
+        }
+    }
+    drop(last);
+}
+
+/// A scenario cut at one place and at another behind it.
+fn put_piece(
+    out: &mut Printed,
     alloc: Global,
     names: &Names,
     scenario: &Scenario,
     end: End,
-    out: &mut String,
-) -> Result<(), Memory> {
-    let all = scenario.at_once(alloc, end)?;
-    let size = all.as_slice().len();
-    let mut last = String::new(alloc);
-    for at in 0..size {
-        let line = line_of(alloc, names, scenario, Way::Cut(end, at, size), false)?;
-        let way = format!(in alloc; "from {at}: ")?;
-        add_line(out, &mut last, line, way.as_str())?;
+    from: usize,
+    last: &mut String,
+) {
+    for to in from..=scenario.size_at_once(end) {
+        if differs(out, alloc, names, scenario, Way::Cut(end, from, to), last) {
+            out.put_number("from", from);
+            out.put_number(" and", to);
+            out.put(": ");
+            put_whole_line(out, last.as_str());
+        }
     }
-    Ok(())
 }
 
 /// A scenario cut into three pieces in each way: one line where all are the same.
-fn put_pieces(
-    alloc: Global,
-    names: &Names,
-    scenario: &Scenario,
-    end: End,
-    out: &mut String,
-) -> Result<(), Memory> {
-    let all = scenario.at_once(alloc, end)?;
-    let size = all.as_slice().len();
+fn put_pieces(out: &mut Printed, alloc: Global, names: &Names, scenario: &Scenario, end: End) {
     let mut last = String::new(alloc);
-    for from in 0..=size {
-        for to in from..=size {
-            let line = line_of(alloc, names, scenario, Way::Cut(end, from, to), false)?;
-            let way = format!(in alloc; "from {from} and {to}: ")?;
-            add_line(out, &mut last, line, way.as_str())?;
-        }
+    for from in 0..=scenario.size_at_once(end) {
+        put_piece(out, alloc, names, scenario, end, from, &mut last);
     }
-    Ok(())
+    drop(last);
 }
 
 /// A scenario in one line.
-fn put_line(
-    alloc: Global,
-    names: &Names,
-    scenario: &Scenario,
-    timed: bool,
-    out: &mut String,
-) -> Result<(), Memory> {
-    let line = line_of(alloc, names, scenario, Way::Units, timed)?;
-    out.push_str(line.as_str())?;
-    out.push_str("\n")?;
-    Ok(())
+fn put_line(out: &mut Printed, alloc: Global, names: &Names, scenario: &Scenario, timed: bool) {
+    if let Some(line) = out.take(line_of(alloc, names, scenario, Way::Units, timed)) {
+        put_whole_line(out, line.as_str());
+        drop(line);
+    }
+}
+
+/// The calls of a scenario, a line each.
+fn put_list(out: &mut Printed, alloc: Global, names: &Names, scenario: &Scenario) {
+    if let Some(run) = out.take(played(alloc, scenario, Way::Units)) {
+        put_listing(out, alloc, names, &run);
+        drop(run);
+    }
+}
+
+/// What is counted of the calls of a scenario, or of what is read byte by byte at an end.
+fn put_counted(out: &mut Printed, alloc: Global, scenario: &Scenario, way: Way) {
+    if let Some(run) = out.take(played(alloc, scenario, way)) {
+        match way {
+            Way::Singly(_) => put_reads(out, &run),
+            _ => put_counts(out, &run),
+        }
+        drop(run);
+    }
 }
 
 /// What is told of the calls of a scenario; whether there is such a verb.
 fn put_calls(
+    out: &mut Printed,
     alloc: Global,
     names: &Names,
     scenario: &Scenario,
     end: End,
     verb: &str,
-    out: &mut String,
-) -> Result<bool, Memory> {
+) -> bool {
     match verb {
-        "list" => {
-            let run = played(alloc, scenario, Way::Units)?;
-            let text = listing(alloc, names, &run)?;
-            out.push_str(text.as_str())?;
-        }
-        "counts" => {
-            let run = played(alloc, scenario, Way::Units)?;
-            put_counts(alloc, &run, out)?;
-        }
-        "reads" => {
-            let run = played(alloc, scenario, Way::Singly(end))?;
-            put_reads(&run, out)?;
-        }
-        "fails" => put_fails(alloc, scenario, out)?,
-        "unreported" => put_unreported(alloc, scenario, out)?,
-        _ => return Ok(false),
+        "list" => put_list(out, alloc, names, scenario),
+        "counts" => put_counted(out, alloc, scenario, Way::Units),
+        "reads" => put_counted(out, alloc, scenario, Way::Singly(end)),
+        "fails" => put_fails(out, alloc, scenario),
+        "unreported" => put_unreported(out, alloc, scenario),
+        _ => return false,
     }
-    Ok(true)
+    true
 }
 
 /// Plays a scenario; whether there is such a verb.
 pub fn put_play(
+    out: &mut Printed,
     alloc: Global,
     names: &Names,
     scenario: &Scenario,
     words: &str,
-    out: &mut String,
-) -> Result<bool, Memory> {
+) -> bool {
     let (end, verb) = end_first(words);
     match verb {
-        "play" => put_line(alloc, names, scenario, false, out)?,
-        "times" => put_line(alloc, names, scenario, true, out)?,
-        "ways" => put_ways(alloc, names, scenario, end, out)?,
-        "cuts" => put_cuts(alloc, names, scenario, end, out)?,
-        "pieces" => put_pieces(alloc, names, scenario, end, out)?,
-        _ => return put_calls(alloc, names, scenario, end, verb, out),
+        "play" => put_line(out, alloc, names, scenario, false),
+        "times" => put_line(out, alloc, names, scenario, true),
+        "ways" => put_ways(out, alloc, names, scenario, end),
+        "cuts" => put_cuts(out, alloc, names, scenario, end),
+        "pieces" => put_pieces(out, alloc, names, scenario, end),
+        _ => return put_calls(out, alloc, names, scenario, end, verb),
     }
-    Ok(true)
+    true
 }

@@ -14,6 +14,7 @@ use gate_relay::Relay;
 use gate_runs::{Limits, Served};
 use gate_turns::serve;
 use std::alloc::Global;
+use tests_support::Printed;
 use wire_base::{ByteText, ItemList, Memory};
 
 /// The most entries of a log.
@@ -131,14 +132,14 @@ pub struct Run {
     pub calls: Entries,
 }
 
-pub fn entries_of(alloc: Global, log: &Log) -> Result<Entries, Memory> {
-    let mut entries = ItemList::empty(alloc);
+/// Adds the calls of a log.
+pub fn add_calls(alloc: Global, calls: &mut Entries, log: &Log) -> Result<(), Memory> {
     for k in 0..log.len() {
         if let Some(entry) = log.copy(alloc, k)? {
-            entries.push(entry)?;
+            calls.push(entry)?;
         }
     }
-    Ok(entries)
+    Ok(())
 }
 
 /// Serves over any ports, pairs and sinks: what the contract says isn't needed here, and is not
@@ -159,30 +160,52 @@ fn serve_into<P: Ports, R: Relay, K: Sink>(
 
 /// Serves the clients of a script, and reports to a sink. The log of the calls has at most so many
 /// bytes.
+fn play_script(
+    alloc: Global,
+    setup: &Setup,
+    script: Script,
+    limits: &Limits,
+    log: usize,
+    report: &mut MemorySink,
+    run: &mut Run,
+) -> Result<(), Memory>
+    requires { IsInForm limits.now }
+{
+    let mut ports = ScriptPorts::new(alloc, script, LOG_ROOM, log)?;
+    let ended = serve_into::<ScriptPorts, Pair, MemorySink>(
+        alloc, setup, &mut ports, limits, report,
+    );
+    run.served = ended.0;
+    run.out_of_memory = ended.1;
+    let added = add_calls(alloc, &mut run.calls, ports.log());
+    drop(ports);
+    added
+}
+
+/// The same, with what the run did.
 pub fn play_into(
     alloc: Global,
     setup: &Setup,
     script: Script,
     limits: &Limits,
     log: usize,
-    mut report: MemorySink,
+    report: &mut MemorySink,
 ) -> Result<Run, Memory>
     requires { IsInForm limits.now }
 {
-    let mut ports = ScriptPorts::new(alloc, script, LOG_ROOM, log)?;
-    let (served, out_of_memory) = serve_into::<ScriptPorts, Pair, MemorySink>(
-        alloc,
-        setup,
-        &mut ports,
-        limits,
-        &mut report,
-    );
-    Ok(Run {
-        served,
-        out_of_memory,
-        report: ByteText::copy_of(alloc, report.held())?,
-        calls: entries_of(alloc, ports.log())?,
-    })
+    let mut run = Run {
+        served: Served::Memory,
+        out_of_memory: 0,
+        report: ByteText::empty(alloc),
+        calls: ItemList::empty(alloc),
+    };
+    let played = play_script(alloc, setup, script, limits, log, report, &mut run);
+    let held = run.report.append(report.held());
+    if played.is_ok() && held.is_ok() {
+        return Ok(run);
+    }
+    drop(run);
+    Err(Memory)
 }
 
 impl Run {
@@ -242,33 +265,36 @@ impl Run {
         None
     }
 
-    /// The pairs that were accepted, in order.
-    pub fn accepted(&self, alloc: Global) -> Result<Vec<u32>, Memory> {
-        let mut numbers = Vec::new(alloc);
-        for k in 0..self.calls.len() {
-            if let Some(
+    /// The pair that the call at a place accepted.
+    pub fn accepted_at(&self, at: usize) -> Option<u32> {
+        match self.calls.get(at) {
+            Some(
                 LogEntry::Accept {
                     answer: Accepted::Pair(pair),
                 },
-            ) = self.calls.get(k)
-            {
-                numbers.push(*pair)?;
-            }
+            ) => Some(*pair),
+            _ => None,
         }
-        Ok(numbers)
     }
 
-    /// The places of the calls of a kind.
-    pub fn places(&self, alloc: Global, kind: Kind) -> Result<Vec<usize>, Memory> {
-        let mut places = Vec::new(alloc);
+    /// How many pairs were accepted.
+    pub fn accepted_count(&self) -> usize {
+        let mut count = 0usize;
         for k in 0..self.calls.len() {
-            if let Some(entry) = self.calls.get(k)
-                && kind_of(entry) == kind
-            {
-                places.push(k)?;
+            count = count.saturating_add(usize::from(self.accepted_at(k).is_some()));
+        }
+        count
+    }
+
+    /// How many calls are of a kind.
+    pub fn count_of(&self, kind: Kind) -> usize {
+        let mut count = 0usize;
+        for k in 0..self.calls.len() {
+            if let Some(entry) = self.calls.get(k) {
+                count = count.saturating_add(usize::from(kind_of(entry) == kind));
             }
         }
-        Ok(places)
+        count
     }
 
     /// How many bytes were read, of all pairs.
@@ -287,27 +313,21 @@ impl Run {
         let mut live = 0u32;
         let mut most = 0;
         for k in 0..self.calls.len() {
-            if let Some(
-                LogEntry::Accept {
-                    answer: Accepted::Pair(_),
-                },
-            ) = self.calls.get(k)
-            {
-                live = live.saturating_add(1);
-            }
+            live = live.saturating_add(u32::from(self.accepted_at(k).is_some()));
             live = live.saturating_sub(u32::from(self.closed_at(k).is_some()));
             most = live.max(most);
         }
         most
     }
 
-    /// The lines of the pairs that closed, in order, and one line more.
-    pub fn lines_and(&self, alloc: Global, last: &str) -> Result<String, Memory> {
-        let mut lines = String::new(alloc);
-        for pair in self.closed(alloc)? {
-            write!(lines, "pair {pair} closed\n")?;
+    /// The lines of the pairs that closed, in order.
+    pub fn put_lines(&self, out: &mut Printed) {
+        for k in 0..self.calls.len() {
+            if let Some(pair) = self.closed_at(k) {
+                out.put("pair ");
+                out.show(pair);
+                out.put(" closed\n");
+            }
         }
-        lines.push_str(last)?;
-        Ok(lines)
     }
 }

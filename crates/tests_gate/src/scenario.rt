@@ -106,8 +106,19 @@ impl Scenario {
         })
     }
 
+    /// How many bytes are sent at an end without waiting.
+    pub fn size_at_once(&self, end: End) -> usize {
+        let mut size = 0usize;
+        for sent in &self.sent {
+            if is_at_once(sent, end) {
+                size = size.saturating_add(sent.bytes.as_slice().len());
+            }
+        }
+        size
+    }
+
     /// All bytes that are sent at an end without waiting.
-    pub fn at_once(&self, alloc: Global, end: End) -> Result<ByteText, Memory> {
+    fn at_once(&self, alloc: Global, end: End) -> Result<ByteText, Memory> {
         let mut all = ByteText::empty(alloc);
         for sent in &self.sent {
             if is_at_once(sent, end) {
@@ -172,6 +183,37 @@ fn changed_end(way: Way) -> Option<End> {
     }
 }
 
+/// Has an end send all that it sends without waiting, in one of the ways.
+fn sends_at_once(
+    alloc: Global,
+    script: &mut Script,
+    scenario: &Scenario,
+    end: End,
+    way: Way,
+) -> Result<(), Memory> {
+    let all = scenario.at_once(alloc, end)?;
+    let sent = sends_all(alloc, script, all.as_slice(), way);
+    drop(all);
+    sent
+}
+
+/// Has clients and containers send what a scenario tells, except what this end sends without
+/// waiting.
+fn sends_rest(
+    alloc: Global,
+    script: &mut Script,
+    scenario: &Scenario,
+    changed: Option<End>,
+) -> Result<(), Memory> {
+    for sent in &scenario.sent {
+        if !changed.is_some_and(|end| is_at_once(sent, end)) {
+            let bytes = sent.bytes.as_slice();
+            sends(alloc, script, bytes, sent.peer, sent.after, sent.ends)?;
+        }
+    }
+    Ok(())
+}
+
 /// Has clients and containers send what a scenario tells, in one of the ways.
 fn sends_so(
     alloc: Global,
@@ -181,16 +223,27 @@ fn sends_so(
 ) -> Result<(), Memory> {
     let changed = changed_end(way);
     if let Some(end) = changed {
-        let all = scenario.at_once(alloc, end)?;
-        sends_all(alloc, script, all.as_slice(), way)?;
+        sends_at_once(alloc, script, scenario, end, way)?;
     }
-    for sent in &scenario.sent {
-        if !changed.is_some_and(|end| is_at_once(sent, end)) {
-            let bytes = sent.bytes.as_slice();
-            sends(alloc, script, bytes, sent.peer, sent.after, sent.ends)?;
-        }
+    sends_rest(alloc, script, scenario, changed)
+}
+
+/// Has their writes take what a scenario tells.
+fn takes(script: &mut Script, scenario: &Scenario) -> Result<(), Memory> {
+    for taken in &scenario.taken {
+        script.rooms.push(Room {
+            pair: taken.peer.pair,
+            end: taken.peer.end,
+            most: taken.most,
+        })?;
     }
     Ok(())
+}
+
+/// Has clients and containers do what a scenario tells, in one of the ways.
+fn fill(alloc: Global, script: &mut Script, scenario: &Scenario, way: Way) -> Result<(), Memory> {
+    sends_so(alloc, script, scenario, way)?;
+    takes(script, scenario)
 }
 
 /// The calls that fail: one, or none.
@@ -217,15 +270,13 @@ pub fn script_of(
         idles: scenario.numbers.idles,
         step: scenario.numbers.step,
     };
-    sends_so(alloc, &mut script, scenario, way)?;
-    for taken in &scenario.taken {
-        script.rooms.push(Room {
-            pair: taken.peer.pair,
-            end: taken.peer.end,
-            most: taken.most,
-        })?;
+    match fill(alloc, &mut script, scenario, way) {
+        Ok(()) => Ok(script),
+        Err(memory) => {
+            drop(script);
+            Err(memory)
+        }
     }
-    Ok(script)
 }
 
 /// What is asked of the service.
@@ -243,6 +294,21 @@ fn limits_of(numbers: Numbers) -> Limits
     }
 }
 
+/// A play in one of the ways, in which a call fails, if one is told, and whose report goes to a
+/// sink.
+fn play_to(
+    alloc: Global,
+    scenario: &Scenario,
+    way: Way,
+    fault: Option<u64>,
+    report: &mut MemorySink,
+) -> Result<Run, Memory> {
+    let script = script_of(alloc, scenario, way, fault)?;
+    let numbers = scenario.numbers;
+    let limits = limits_of(numbers);
+    play_into(alloc, &scenario.setup, script, &limits, numbers.log, report)
+}
+
 /// A play in which a call fails, if one is told.
 pub fn failed(
     alloc: Global,
@@ -250,11 +316,10 @@ pub fn failed(
     way: Way,
     fault: Option<u64>,
 ) -> Result<Run, Memory> {
-    let script = script_of(alloc, scenario, way, fault)?;
-    let numbers = scenario.numbers;
-    let sink = MemorySink::new(alloc, numbers.report, ItemList::empty(alloc))?;
-    let limits = limits_of(numbers);
-    play_into(alloc, &scenario.setup, script, &limits, numbers.log, sink)
+    let mut sink = MemorySink::new(alloc, scenario.numbers.report, ItemList::empty(alloc))?;
+    let run = play_to(alloc, scenario, way, fault, &mut sink);
+    drop(sink);
+    run
 }
 
 /// A play.
@@ -270,10 +335,9 @@ pub fn reported(
     room: usize,
     fails: Option<u64>,
 ) -> Result<Run, Memory> {
-    let script = script_of(alloc, scenario, Way::Units, None)?;
     let room = room.min(scenario.numbers.report);
-    let sink = MemorySink::new(alloc, room, faults(alloc, fails)?)?;
-    let numbers = scenario.numbers;
-    let limits = limits_of(numbers);
-    play_into(alloc, &scenario.setup, script, &limits, numbers.log, sink)
+    let mut sink = MemorySink::new(alloc, room, faults(alloc, fails)?)?;
+    let run = play_to(alloc, scenario, Way::Units, None, &mut sink);
+    drop(sink);
+    run
 }

@@ -4,7 +4,8 @@ use crate::closes::{close, up_close};
 use crate::runs::{Kind, Peer, Run, count_after, peer_of};
 use gate_outside::{End, Got, Linked, LogEntry, Put};
 use std::alloc::Global;
-use tests_support::{Names, part, put_bytes};
+use std::fmt::Debug;
+use tests_support::{Names, Printed, part};
 use wire_base::{ByteText, Memory};
 
 /// A number of two bytes at a place.
@@ -16,54 +17,77 @@ fn number_at(bytes: &[u8], at: usize) -> u16 {
 }
 
 /// connection.close by its reply code, class id, method id and text; whether it is one.
-fn put_close(alloc: Global, out: &mut String, bytes: &[u8]) -> Result<bool, Memory> {
+fn put_close(out: &mut Printed, alloc: Global, bytes: &[u8]) -> bool {
     let ids = bytes.len().saturating_sub(5);
     let Ok(text) = std::str::from_utf8(part(bytes, 14, ids)) else {
-        return Ok(false);
+        return false;
     };
     let code = number_at(bytes, 11);
     let class = number_at(bytes, ids);
     let method = number_at(bytes, ids.saturating_add(2));
-    let frame = close(alloc, code, text, class, method)?;
-    if frame.as_slice() != bytes {
-        return Ok(false);
+    if !is_same(out, close(alloc, code, text, class, method), bytes) {
+        return false;
     }
-    write!(out, " close {code} {class} {method} {text}")?;
-    Ok(true)
+    out.put(" close ");
+    out.show(code);
+    out.put(" ");
+    out.show(class);
+    out.put(" ");
+    out.show(method);
+    out.put(" ");
+    out.put(text);
+    true
+}
+
+/// What was made is these bytes.
+fn is_same(out: &mut Printed, made: Result<ByteText, Memory>, bytes: &[u8]) -> bool {
+    match out.take(made) {
+        Some(made) => made.as_slice() == bytes,
+        None => false,
+    }
 }
 
 /// The close of a container's connection by its condition; whether it is one.
-fn put_up_close(alloc: Global, out: &mut String, bytes: &[u8]) -> Result<bool, Memory> {
-    if up_close(alloc, None)?.as_slice() == bytes {
-        out.push_str(" close")?;
-        return Ok(true);
+fn put_up_close(out: &mut Printed, alloc: Global, bytes: &[u8]) -> bool {
+    if is_same(out, up_close(alloc, None), bytes) {
+        out.put(" close");
+        return true;
     }
     let condition = part(bytes, 22, bytes.len());
     let Ok(text) = std::str::from_utf8(condition) else {
-        return Ok(false);
+        return false;
     };
-    if up_close(alloc, Some(condition))?.as_slice() != bytes {
-        return Ok(false);
+    if !is_same(out, up_close(alloc, Some(condition)), bytes) {
+        return false;
     }
-    write!(out, " close {text}")?;
-    Ok(true)
+    out.put(" close ");
+    out.put(text);
+    true
 }
 
 /// A unit: by its name, as a close, or its bytes.
-fn put_unit(alloc: Global, names: &Names, out: &mut String, bytes: &[u8]) -> Result<(), Memory> {
-    if names.put_name(out, bytes)?
-        || put_close(alloc, out, bytes)?
-        || put_up_close(alloc, out, bytes)?
+fn put_unit(out: &mut Printed, alloc: Global, names: &Names, bytes: &[u8]) {
+    if put_name(out, alloc, names, bytes)
+        || put_close(out, alloc, bytes)
+        || put_up_close(out, alloc, bytes)
     {
-        return Ok(());
+        return;
     }
-    put_bytes(out, bytes)
+    out.put_bytes(bytes);
+}
+
+/// The name of a unit; whether it has one.
+fn put_name(out: &mut Printed, alloc: Global, names: &Names, bytes: &[u8]) -> bool {
+    let mut name = String::new(alloc);
+    let named = names.put_name(&mut name, bytes);
+    out.put(name.as_str());
+    drop(name);
+    out.take(named).unwrap_or(false)
 }
 
 /// How far the talk with a client or a container has come.
 #[derive(Drop)]
 struct Talk {
-    text: String,
     /// The unit that is going, and how much of it went.
     unit: ByteText,
     gone: usize,
@@ -73,185 +97,211 @@ struct Talk {
 }
 
 /// The moment, where it is asked for.
-fn put_moment(talk: &mut Talk, timed: bool) -> Result<(), Memory> {
-    let moment = talk.moment;
+fn put_moment(out: &mut Printed, talk: &Talk, timed: bool) {
     if timed {
-        write!(talk.text, "@{moment}")?;
+        out.put("@");
+        out.show(talk.moment);
     }
-    Ok(())
 }
 
-/// A write: a unit is told when it went wholly. Bytes that don't go on with a begun one are told at
-/// once.
+/// What follows of the unit that is going is these bytes.
+fn goes_on(talk: &Talk, bytes: &[u8]) -> bool {
+    let unit = talk.unit.as_slice();
+    bytes == part(unit, talk.gone, unit.len())
+}
+
+/// A unit begins to go, so that this much of it went.
+fn begin(out: &mut Printed, talk: &mut Talk, bytes: &[u8]) {
+    talk.unit.truncate(0);
+    out.take(talk.unit.append(bytes));
+}
+
+/// More of the unit went: it is told when it went wholly.
+fn tell_more(
+    out: &mut Printed,
+    alloc: Global,
+    names: &Names,
+    talk: &mut Talk,
+    timed: bool,
+    count: usize,
+) {
+    talk.gone = talk.gone.saturating_add(count);
+    if talk.gone == talk.unit.as_slice().len() {
+        talk.gone = 0;
+        put_unit(out, alloc, names, talk.unit.as_slice());
+        put_moment(out, talk, timed);
+        out.put(",");
+    }
+}
+
+/// A write. Bytes that don't go on with a begun unit are told at once.
 fn tell_write(
+    out: &mut Printed,
     alloc: Global,
     names: &Names,
     talk: &mut Talk,
     timed: bool,
     bytes: &[u8],
     answer: Put,
-) -> Result<(), Memory> {
+) {
     if answer != Put::NotYet {
         talk.turns = 0;
     }
     let count = count_after(0, answer);
     if talk.gone == 0 {
         if count == 0 {
-            return Ok(());
+            return;
         }
-        talk.unit = ByteText::copy_of(alloc, bytes)?;
+        begin(out, talk, bytes);
     }
-    let size = talk.unit.as_slice().len();
-    if bytes != part(talk.unit.as_slice(), talk.gone, size) {
-        talk.text.push_str(" other bytes")?;
+    if !goes_on(talk, bytes) {
+        out.put(" other bytes");
     }
-    talk.gone = talk.gone.saturating_add(count);
-    if talk.gone == size {
-        talk.gone = 0;
-        put_unit(alloc, names, &mut talk.text, talk.unit.as_slice())?;
-        put_moment(talk, timed)?;
-        talk.text.push_str(",")?;
-    }
-    Ok(())
+    tell_more(out, alloc, names, talk, timed, count);
 }
 
 /// The answer to the asking for the connection upstream: told where it failed, or with its moment.
-fn tell_link(talk: &mut Talk, timed: bool, answer: Linked) -> Result<(), Memory> {
+fn tell_link(out: &mut Printed, talk: &mut Talk, timed: bool, answer: Linked) {
     talk.turns = 0;
     match answer {
         Linked::Failed => {
-            talk.text.push_str(" refused")?;
-            put_moment(talk, timed)
+            out.put(" refused");
+            put_moment(out, talk, timed);
         }
         Linked::Ok if timed => {
-            talk.text.push_str(" joined")?;
-            put_moment(talk, timed)?;
-            talk.text.push_str(",")?;
-            Ok(())
+            out.put(" joined");
+            put_moment(out, talk, timed);
+            out.put(",");
         }
-        Linked::Ok => Ok(()),
+        Linked::Ok => {}
     }
 }
 
 /// The shut of the end.
-fn tell_shut(talk: &mut Talk, timed: bool) -> Result<(), Memory> {
-    let (gone, turns) = (talk.gone, talk.turns);
-    if gone > 0 {
-        write!(talk.text, " {gone} more,")?;
+fn tell_shut(out: &mut Printed, talk: &Talk, timed: bool) {
+    if talk.gone > 0 {
+        out.put(" ");
+        out.show(talk.gone);
+        out.put(" more,");
     }
-    talk.text.push_str(" shut")?;
+    out.put(" shut");
     if timed {
-        put_moment(talk, timed)
-    } else if turns > 0 {
-        talk.text.push_str(" later")?;
-        Ok(())
+        put_moment(out, talk, timed);
+    } else if talk.turns > 0 {
+        out.put(" later");
     } else {
-        talk.text.push_str(" at once")?;
-        Ok(())
+        out.put(" at once");
     }
 }
 
 /// A call about the one whose talk it is.
 fn tell_call(
+    out: &mut Printed,
     alloc: Global,
     names: &Names,
     talk: &mut Talk,
     timed: bool,
     entry: &LogEntry,
-) -> Result<(), Memory> {
+) {
     match entry {
-        LogEntry::Connect { answer, .. } => tell_link(talk, timed, *answer),
+        LogEntry::Connect { answer, .. } => tell_link(out, talk, timed, *answer),
         LogEntry::Read { answer, .. } => {
             if *answer != Got::NotYet {
                 talk.turns = 0;
             }
-            Ok(())
         }
         LogEntry::Write { bytes, answer, .. } => {
-            tell_write(alloc, names, talk, timed, bytes.as_slice(), *answer)
+            tell_write(out, alloc, names, talk, timed, bytes.as_slice(), *answer);
         }
-        LogEntry::Shut { .. } => tell_shut(talk, timed),
-        LogEntry::Accept { .. } | LogEntry::Idle { .. } | LogEntry::Now { .. } => Ok(()),
+        LogEntry::Shut { .. } => tell_shut(out, talk, timed),
+        LogEntry::Accept { .. } | LogEntry::Idle { .. } | LogEntry::Now { .. } => {}
+    }
+}
+
+/// A new moment, if a call gives one.
+fn note_moment(talk: &mut Talk, entry: &LogEntry) {
+    if let LogEntry::Now { ms } = entry {
+        talk.moment = *ms;
+        talk.turns = talk.turns.saturating_add(1);
+    }
+}
+
+/// The calls about a client or a container.
+fn tell_calls(
+    out: &mut Printed,
+    alloc: Global,
+    names: &Names,
+    talk: &mut Talk,
+    run: &Run,
+    timed: bool,
+    peer: Peer,
+) {
+    for k in 0..run.calls.len() {
+        if let Some(entry) = run.calls.get(k) {
+            note_moment(talk, entry);
+            if peer_of(entry) == Some(peer) {
+                tell_call(out, alloc, names, talk, timed, entry);
+            }
+        }
     }
 }
 
 /// What went to a client or a container, and when its end was shut.
-fn talk_of(
-    alloc: Global,
-    names: &Names,
-    run: &Run,
-    timed: bool,
-    peer: Peer,
-) -> Result<String, Memory> {
+fn put_talk(out: &mut Printed, alloc: Global, names: &Names, run: &Run, timed: bool, peer: Peer) {
     let mut talk = Talk {
-        text: String::new(alloc),
         unit: ByteText::empty(alloc),
         gone: 0,
         moment: 0,
         turns: 0,
     };
-    for k in 0..run.calls.len() {
-        if let Some(entry) = run.calls.get(k) {
-            if let LogEntry::Now { ms } = entry {
-                talk.moment = *ms;
-                talk.turns = talk.turns.saturating_add(1);
-            }
-            if peer_of(entry) == Some(peer) {
-                tell_call(alloc, names, &mut talk, timed, entry)?;
-            }
-        }
-    }
-    Ok(talk.text)
+    out.put(word_of(peer.end));
+    out.show(peer.pair);
+    out.put(":");
+    tell_calls(out, alloc, names, &mut talk, run, timed, peer);
+    drop(talk);
+    out.put("; ");
 }
 
 /// The report, with its lines in one.
-pub fn put_report(out: &mut String, report: &[u8]) -> Result<(), Memory> {
+pub fn put_report(out: &mut Printed, report: &[u8]) {
     let Ok(text) = std::str::from_utf8(report) else {
-        return out.push_str(" no text").map_err(Memory::from);
+        out.put(" no text");
+        return;
     };
     for line in text.lines() {
-        out.push_str(" / ")?;
-        out.push_str(line)?;
+        out.put(" / ");
+        out.put(line);
     }
-    Ok(())
 }
 
 /// What went to the client of a pair, and to its container if the connection upstream was asked
 /// for.
-fn put_pair(
-    alloc: Global,
-    names: &Names,
-    run: &Run,
-    timed: bool,
-    pair: u32,
-    out: &mut String,
-) -> Result<(), Memory> {
-    for end in [End::Client, End::Up] {
-        if end == End::Client || run.link(pair).is_some() {
-            let talk = talk_of(alloc, names, run, timed, Peer { pair, end })?;
-            let word = word_of(end);
-            write!(out, "{word}{pair}:")?;
-            out.push_str(talk.as_str())?;
-            out.push_str("; ")?;
-        }
+fn put_pair(out: &mut Printed, alloc: Global, names: &Names, run: &Run, timed: bool, pair: u32) {
+    let client = Peer {
+        pair,
+        end: End::Client,
+    };
+    put_talk(out, alloc, names, run, timed, client);
+    if run.link(pair).is_some() {
+        let up = Peer { pair, end: End::Up };
+        put_talk(out, alloc, names, run, timed, up);
     }
-    Ok(())
 }
 
 /// A play in one line: what each client and container got, the pairs that met want of memory, and
 /// the report.
-pub fn told(alloc: Global, names: &Names, run: &Run, timed: bool) -> Result<String, Memory> {
-    let mut out = String::new(alloc);
-    for pair in run.accepted(alloc)? {
-        put_pair(alloc, names, run, timed, pair, &mut out)?;
+pub fn put_told(out: &mut Printed, alloc: Global, names: &Names, run: &Run, timed: bool) {
+    for k in 0..run.calls.len() {
+        if let Some(pair) = run.accepted_at(k) {
+            put_pair(out, alloc, names, run, timed, pair);
+        }
     }
-    let out_of_memory = run.out_of_memory;
-    if out_of_memory > 0 {
-        write!(out, "{out_of_memory} out of memory; ")?;
+    if run.out_of_memory > 0 {
+        out.show(run.out_of_memory);
+        out.put(" out of memory; ");
     }
-    out.push_str("report")?;
-    put_report(&mut out, run.report.as_slice())?;
-    Ok(out)
+    out.put("report");
+    put_report(out, run.report.as_slice());
 }
 
 /// The word for an end, before the number of its pair.
@@ -262,16 +312,27 @@ fn word_of(end: End) -> &'static str {
     }
 }
 
+/// The name of a call, the end that it is about, and a blank before what follows.
+fn put_of_end(out: &mut Printed, name: &str, end: End, pair: u32) {
+    out.put(name);
+    out.put(word_of(end));
+    out.show(pair);
+}
+
+/// The name of a call, and its answer.
+fn put_named<T: Debug + Copy>(out: &mut Printed, name: &str, answer: T) {
+    out.put(name);
+    out.debug(answer);
+}
+
 /// A call in the listing.
-fn put_call(
-    alloc: Global,
-    names: &Names,
-    out: &mut String,
-    entry: &LogEntry,
-) -> Result<(), Memory> {
+fn put_call(out: &mut Printed, alloc: Global, names: &Names, entry: &LogEntry) {
     match entry {
-        LogEntry::Accept { answer } => write!(out, "accept {answer:?}")?,
-        LogEntry::Connect { pair, answer } => write!(out, "connect {pair} {answer:?}")?,
+        LogEntry::Accept { answer } => put_named(out, "accept ", *answer),
+        LogEntry::Connect { pair, answer } => {
+            put_of_end(out, "connect ", End::Client, *pair);
+            put_named(out, " ", *answer);
+        }
         LogEntry::Read {
             pair,
             end,
@@ -279,9 +340,11 @@ fn put_call(
             answer,
             bytes,
         } => {
-            let word = word_of(*end);
-            write!(out, "read {word}{pair} {room} {answer:?}")?;
-            put_unit(alloc, names, out, bytes.as_slice())?;
+            put_of_end(out, "read ", *end, *pair);
+            out.put(" ");
+            out.show(*room);
+            put_named(out, " ", *answer);
+            put_unit(out, alloc, names, bytes.as_slice());
         }
         LogEntry::Write {
             pair,
@@ -289,56 +352,41 @@ fn put_call(
             bytes,
             answer,
         } => {
-            let word = word_of(*end);
-            write!(out, "write {word}{pair} {answer:?}")?;
-            put_unit(alloc, names, out, bytes.as_slice())?;
+            put_of_end(out, "write ", *end, *pair);
+            put_named(out, " ", *answer);
+            put_unit(out, alloc, names, bytes.as_slice());
         }
-        LogEntry::Shut { pair, end } => {
-            let word = word_of(*end);
-            write!(out, "shut {word}{pair}")?;
-        }
-        LogEntry::Idle { answer } => write!(out, "idle {answer:?}")?,
-        LogEntry::Now { ms } => write!(out, "now {ms}")?,
+        LogEntry::Shut { pair, end } => put_of_end(out, "shut ", *end, *pair),
+        LogEntry::Idle { answer } => put_named(out, "idle ", *answer),
+        LogEntry::Now { ms } => put_named(out, "now ", *ms),
     }
-    Ok(())
 }
 
 /// A play call by call, a line each, and the report.
-pub fn listing(alloc: Global, names: &Names, run: &Run) -> Result<String, Memory> {
-    let mut out = String::new(alloc);
+pub fn put_listing(out: &mut Printed, alloc: Global, names: &Names, run: &Run) {
     for k in 0..run.calls.len() {
         if let Some(entry) = run.calls.get(k) {
-            put_call(alloc, names, &mut out, entry)?;
-            out.push_str("\n")?;
+            put_call(out, alloc, names, entry);
+            out.put("\n");
         }
     }
-    out.push_str("report")?;
-    put_report(&mut out, run.report.as_slice())?;
-    out.push_str("\n")?;
-    Ok(out)
-}
-
-/// A number behind words and a blank.
-pub fn put_number(out: &mut String, words: &str, number: usize) -> Result<(), Memory> {
-    write!(out, "{words} {number}")?;
-    Ok(())
+    out.put("report");
+    put_report(out, run.report.as_slice());
+    out.put("\n");
 }
 
 /// How many accepts were tried, how many pairs were accepted, and how many lived at most.
-pub fn put_counts(alloc: Global, run: &Run, out: &mut String) -> Result<(), Memory> {
-    let tried = run.places(alloc, Kind::Accept)?.len();
-    let accepted = run.accepted(alloc)?.len();
-    let most = run.most_live();
-    write!(
-        out,
-        "{tried} accepts, {accepted} pairs, {most} live at most\n"
-    )?;
-    Ok(())
+pub fn put_counts(out: &mut Printed, run: &Run) {
+    out.show(run.count_of(Kind::Accept));
+    out.put(" accepts, ");
+    out.show(run.accepted_count());
+    out.put(" pairs, ");
+    out.show(run.most_live());
+    out.put(" live at most\n");
 }
 
 /// How many bytes were read.
-pub fn put_reads(run: &Run, out: &mut String) -> Result<(), Memory> {
-    let count = run.read_count();
-    write!(out, "{count} bytes read\n")?;
-    Ok(())
+pub fn put_reads(out: &mut Printed, run: &Run) {
+    out.show(run.read_count());
+    out.put(" bytes read\n");
 }
