@@ -5,7 +5,7 @@ use content_091::{Props, read_header};
 use property_map::{MapFault, Message091, redelivered, to_10, to_091};
 use sections_10::{Message10, can_be_written, read_message};
 use std::alloc::Global;
-use tests_support::{Cases, bytes_of, put_bytes};
+use tests_support::{Cases, Printed, bytes_of};
 use wire_base::{ByteText, Memory};
 
 /// The longest payload of a content header that a message comes back in.
@@ -15,28 +15,45 @@ const ROOM: u32 = 131_064;
 #[derive(Drop)]
 pub struct MappingCases;
 
-/// A fault, or out of memory.
-fn put_fault(out: &mut String, fault: &MapFault) -> Result<(), Memory> {
-    write!(out, "{fault:?}")?;
-    Ok(())
-}
-
-/// What is written of a message.
-fn put_written(alloc: Global, out: &mut String, message: &Message10) -> Result<(), Memory> {
+/// The bytes that are written of a message; `None` where it can't be written.
+fn written(alloc: Global, message: &Message10) -> Result<Option<ByteText>, Memory> {
     if !can_be_written(alloc, message)? {
-        return Ok(out.push_str("not written")?);
+        return Ok(None);
     }
     let mut text = ByteText::empty(alloc);
     sections_10::put_message(alloc, &mut text, message)?;
-    put_bytes(out, text.as_slice())
+    Ok(Some(text))
+}
+
+/// What is written of a message.
+fn put_written(alloc: Global, out: &mut Printed, message: &Message10) {
+    match out.take(written(alloc, message)) {
+        Some(Some(text)) => out.put_bytes(text.as_slice()),
+        Some(None) => out.put("not written"),
+        None => {}
+    }
 }
 
 /// A message of AMQP 0-9-1, or the fault.
-fn put_mapped(out: &mut String, mapped: &Result<Message091, MapFault>) -> Result<(), Memory> {
+fn put_mapped(out: &mut Printed, mapped: &Result<Message091, MapFault>) {
     match mapped {
         Ok(m) => put_message(out, m),
-        Err(fault) => put_fault(out, fault),
+        Err(fault) => out.debug(fault),
     }
+}
+
+/// A message as a text of its own.
+fn message_text(alloc: Global, m: &Message091) -> Result<String, Memory> {
+    let mut out = Printed::new(alloc);
+    put_message(&mut out, m);
+    out.end()
+}
+
+/// What a message came to, as a text of its own.
+fn mapped_text(alloc: Global, mapped: &Result<Message091, MapFault>) -> Result<String, Memory> {
+    let mut out = Printed::new(alloc);
+    put_mapped(&mut out, mapped);
+    out.end()
 }
 
 /// Whether a message came back with this body.
@@ -50,48 +67,28 @@ fn has_body(mapped: &Result<Message091, MapFault>, body: &[u8]) -> bool {
 /// What came back of a message: `=` the same.
 fn put_back(
     alloc: Global,
-    out: &mut String,
+    out: &mut Printed,
     m: &Message091,
     mapped: &Result<Message091, MapFault>,
 ) -> Result<(), Memory> {
-    out.push_str(" | ")?;
-    let mut there = String::new(alloc);
-    put_message(&mut there, m)?;
-    let mut back = String::new(alloc);
-    put_mapped(&mut back, mapped)?;
+    let there = message_text(alloc, m)?;
+    let back = mapped_text(alloc, mapped)?;
+    out.put(" | ");
     if has_body(mapped, m.body.as_slice()) && there.as_str() == back.as_str() {
-        out.push_str("=")?;
+        out.put("=");
     } else {
-        out.push_str(back.as_str())?;
+        out.put(back.as_str());
     }
     Ok(())
 }
 
 /// An image in AMQP 1.0, and the message that comes back of it.
-fn put_image(
-    alloc: Global,
-    out: &mut String,
-    m: &Message091,
-    image: Message10,
-) -> Result<(), Memory> {
-    let written = put_written(alloc, out, &image);
+fn put_image(alloc: Global, out: &mut Printed, m: &Message091, image: Message10) {
+    put_written(alloc, out, &image);
     let mapped = to_091(alloc, image, b"queue", ROOM);
-    let back = match written {
-        Ok(()) => put_back(alloc, out, m, &mapped),
-        Err(memory) => Err(memory),
-    };
+    let put = put_back(alloc, out, m, &mapped);
     drop(mapped);
-    back
-}
-
-/// A message of AMQP 0-9-1 in AMQP 1.0.
-fn image_10(alloc: Global, m: &Message091) -> Result<String, Memory> {
-    let mut out = String::new(alloc);
-    match to_10(alloc, m) {
-        Ok(image) => put_image(alloc, &mut out, m, image)?,
-        Err(fault) => put_fault(&mut out, &fault)?,
-    }
-    Ok(out)
+    out.take(put);
 }
 
 /// The properties of a content header; `None` where the words are none.
@@ -105,15 +102,14 @@ fn props_of(alloc: Global, words: &str) -> Result<Option<Props>, Memory> {
     }
 }
 
-/// The image of a message of AMQP 0-9-1, which stands in four parts; `None` where they are none.
-fn to_10_text(alloc: Global, words: &str) -> Result<Option<String>, Memory> {
-    let Some((exchange, rest)) = words.split_once(',') else {
-        return Ok(None);
-    };
-    let Some((key, rest)) = rest.split_once(',') else {
-        return Ok(None);
-    };
+/// A message of AMQP 0-9-1, which stands in four parts; `None` where they are none.
+fn message_of(alloc: Global, words: &str) -> Result<Option<Message091>, Memory> {
+    let (exchange, rest) = words.split_once(',').unwrap_or((words, ""));
+    let (key, rest) = rest.split_once(',').unwrap_or((rest, ""));
     let (header, body) = rest.split_once(',').unwrap_or((rest, ""));
+    let Some(props) = props_of(alloc, header)? else {
+        return Ok(None);
+    };
     let Some(exchange) = bytes_of(alloc, exchange)? else {
         return Ok(None);
     };
@@ -123,66 +119,73 @@ fn to_10_text(alloc: Global, words: &str) -> Result<Option<String>, Memory> {
     let Some(body) = bytes_of(alloc, body)? else {
         return Ok(None);
     };
-    let Some(props) = props_of(alloc, header)? else {
-        return Ok(None);
-    };
-    let m = Message091 {
+    Ok(Some(Message091 {
         exchange,
         key,
         props,
         body,
+    }))
+}
+
+/// The image of a message of AMQP 0-9-1; whether the words are one.
+fn put_to_10(alloc: Global, out: &mut Printed, words: &str) -> bool {
+    let Some(m) = out.find(message_of(alloc, words)) else {
+        return false;
     };
-    let text = image_10(alloc, &m);
+    match to_10(alloc, &m) {
+        Ok(image) => put_image(alloc, out, &m, image),
+        Err(fault) => out.debug(&fault),
+    }
     drop(m);
-    text.map(Some)
+    true
+}
+
+/// The message that fills the bytes which words tell; `None` where they are none.
+fn message_10_of(alloc: Global, words: &str) -> Result<Option<Message10>, Memory> {
+    let Some(bytes) = bytes_of(alloc, words)? else {
+        return Ok(None);
+    };
+    Ok(read_message(alloc, bytes.as_slice())?.ok())
 }
 
 /// A message of AMQP 1.0 in AMQP 0-9-1.
-fn image_091(alloc: Global, message: Message10, queue: &[u8], room: u32) -> Result<String, Memory> {
-    let mut out = String::new(alloc);
+fn put_091(alloc: Global, out: &mut Printed, message: Message10, queue: &[u8], room: u32) {
     let again = redelivered(&message);
     let mapped = to_091(alloc, message, queue, room);
-    let put = put_mapped(&mut out, &mapped);
+    put_mapped(out, &mapped);
     drop(mapped);
-    put?;
     if again {
-        out.push_str(" | redelivered")?;
+        out.put(" | redelivered");
     }
-    Ok(out)
 }
 
-/// The image of a message of AMQP 1.0, from a queue and for a room; `None` where they are none.
-fn to_091_text(alloc: Global, words: &str) -> Result<Option<String>, Memory> {
-    let Some((queue, rest)) = words.split_once(',') else {
-        return Ok(None);
+/// The image of a message of AMQP 1.0, from a queue and for a room; whether the words are one.
+fn put_to_091(alloc: Global, out: &mut Printed, words: &str) -> bool {
+    let (queue, rest) = words.split_once(',').unwrap_or((words, ""));
+    let (room, bytes) = rest.split_once(',').unwrap_or((rest, ""));
+    let Ok(room) = room.trim().parse() else {
+        return false;
     };
-    let Some((room, bytes)) = rest.split_once(',') else {
-        return Ok(None);
+    let Some(queue) = out.find(bytes_of(alloc, queue)) else {
+        return false;
     };
-    let Ok(room) = room.trim().parse::<u32>() else {
-        return Ok(None);
+    let Some(message) = out.find(message_10_of(alloc, bytes)) else {
+        return false;
     };
-    let (Some(queue), Some(bytes)) = (bytes_of(alloc, queue)?, bytes_of(alloc, bytes)?) else {
-        return Ok(None);
-    };
-    let Ok(message) = read_message(alloc, bytes.as_slice())? else {
-        return Ok(None);
-    };
-    Ok(Some(image_091(alloc, message, queue.as_slice(), room)?))
+    put_091(alloc, out, message, queue.as_slice(), room);
+    true
 }
 
 impl Cases for MappingCases {
     fn answer(&mut self, alloc: Global, line: &str) -> Result<Option<String>, Memory> {
+        let mut out = Printed::new(alloc);
         let (verb, words) = line.split_once(' ').unwrap_or((line, ""));
-        let text = match verb {
-            "to10" => to_10_text(alloc, words)?,
-            "to091" => to_091_text(alloc, words)?,
-            _ => None,
+        let is_case = match verb {
+            "to10" => put_to_10(alloc, &mut out, words),
+            "to091" => put_to_091(alloc, &mut out, words),
+            _ => false,
         };
-        let Some(mut text) = text else {
-            return Ok(None);
-        };
-        text.push_str("\n")?;
-        Ok(Some(text))
+        out.put("\n");
+        out.end_if(is_case)
     }
 }
