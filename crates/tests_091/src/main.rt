@@ -3,7 +3,7 @@
 //! | Line | Answer |
 //! |---|---|
 //! | `name N BYTES` | nothing: these bytes have a name from now on |
-//! | `header BYTES`, `frame LIMIT BYTES` | the unit with which the bytes begin, and its length |
+//! | `header BYTES`, `frame LIMIT BYTES` | the unit with which the bytes begin, and its length; also where its first bytes came before the others, if that differs |
 //! | `table BYTES`, `at N BYTES` | the table, also from an offset, and the offset after it |
 //! | `kinds` | the type bytes of fields that are known |
 //! | `method BYTES` | the ids, and the method that fills the bytes |
