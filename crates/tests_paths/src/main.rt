@@ -15,7 +15,7 @@
 //! |---|---|
 //! | `needed LINK TEXT`, `attached LINK`, `flow LINK CREDIT`, `drain LINK`, `remove LINK` | nothing: the link is changed; a needed one has this address |
 //! | `find TEXT`, `can-send LINK` | the link to an address, and whether it may send |
-//! | `plain LINK "BYTES"`, `confirmed LINK "BYTES"`, `mandatory LINK "BYTES"` | the number of a publish that is taken up; a mandatory one is confirmed, and its return has two frames |
+//! | `plain LINK "TEXT"`, `confirmed LINK "TEXT"`, `mandatory LINK "TEXT"` | the number of a publish that is taken up; a mandatory one is confirmed, and its return has two frames |
 //! | `send N`, `confirm`, `return` | the frame, the confirm or the frame of a return that is due, which is sent; a frame has so many bytes at most |
 //! | `next N` | the frame that is due, where the container takes so many more |
 //! | `accepted FIRST LAST`, `released FIRST LAST`, `refused FIRST LAST` | whether an outcome told of any |
