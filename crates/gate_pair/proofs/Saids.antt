@@ -77,6 +77,9 @@ told_said p t b e flag =
 
 -- ---- a step
 
+abbrev pub half : List ℕ → ℕ → Half
+half unread at = record { unread = unread; at = at }
+
 abbrev pub pair_of : BridgeState → Half → Half → Bool → PairState
 pair_of b x y telling = record { bridge = b; client = x; up = y; telling = telling }
 

@@ -3,22 +3,80 @@
 ghost use Rattle.std.specs.Prelude.{◌≡◌, ◌≤◌, ◌++◌, false, true, drop, length, OnOk, OnErr};
 ghost use Rattle.std.specs.Prelude.{IfOk};
 ghost use Rattle.gate_outside.specs.declared.ports.End.TheVariants.{Client, Up};
+ghost use Rattle.frames_091.specs.Unread.{left_by};
 ghost use Rattle.frames_10.specs.FrameScan.{is_whole};
 ghost use Rattle.bridge_core.specs.Offers.{Keeps};
 ghost use Rattle.gate_model.specs.State.{Queued, step};
-ghost use Rattle.gate_pair.specs.Cutting.{IsWithin, cut_all, up_scan};
+ghost use Rattle.gate_pair.specs.Cutting.{IsLongEnough, IsWithin, cut_all, unit_scan, up_scan};
 ghost use Rattle.gate_pair.specs.PairStates.{IsRead, QueuesInPart, Reads, ReadsInPart};
 ghost use Rattle.gate_pair.specs.PairStates.{ReadsUpInPart};
 ghost use Rattle.gate_pair.specs.PairStates.{Settles, SettlesInPart, StaysSound};
 
-use crate::client_half::ClientHalf;
 use bridge_core::Bridge;
+use close_translate::FRAME_ERROR;
 use frames_10::{Kind10, scan_frame10, scan_header10};
+use frames_091::Unread91;
 use machine_10::{Awaited10, FRAME_MAX, Unit10};
-use machine_091::Unit91;
+use machine_091::{Awaited91, FRAME_MIN_SIZE, Unit91};
 use performatives_10::Condition;
 use std::alloc::Global;
 use wire_base::{Memory, Scan};
+
+/// The protocol header, with which a client's bytes begin.
+fn scan_greeting(
+    alloc: Global,
+    unread: &mut Unread91,
+    bytes: &[u8],
+) -> Result<Scan<Unit91, u16>, Memory>
+    ensures exact { IfOk result (λ scan.
+        scan ≡ unit_scan Awaited91.Header (unread.old ++ bytes.now)) }
+    ensures left { IfOk result (λ scan. unread.new ≡ left_by scan unread.old) }
+{
+    match unread.scan_header(alloc, bytes)? {
+        Scan::Whole(_, n) => Ok(Scan::Whole(Unit91::Protocol, n)),
+        Scan::More => Ok(Scan::More),
+        Scan::Bad(_) => Ok(Scan::Bad(0)),
+    }
+}
+
+/// The frame with which a client's bytes begin.
+fn scan_next(
+    alloc: Global,
+    unread: &mut Unread91,
+    bytes: &[u8],
+    size: u32,
+) -> Result<Scan<Unit91, u16>, Memory>
+    requires { FRAME_MIN_SIZE ≤ size }
+    ensures exact { IfOk result (λ scan.
+        scan ≡ unit_scan (Awaited91.Frame size) (unread.old ++ bytes.now)) }
+    ensures left { IfOk result (λ scan. unread.new ≡ left_by scan unread.old) }
+{
+    match unread.scan_frame(alloc, bytes, size)? {
+        Scan::Whole(frame, n) => Ok(Scan::Whole(Unit91::Frame(frame), n)),
+        Scan::More => Ok(Scan::More),
+        Scan::Bad(_) => Ok(Scan::Bad(FRAME_ERROR)),
+    }
+}
+
+/// The unit with which a client's bytes begin, those that are no unit yet and those that came, as
+/// one is awaited. What is found is dropped of the first.
+fn scan_unit(
+    alloc: Global,
+    awaited: Awaited91,
+    unread: &mut Unread91,
+    bytes: &[u8],
+) -> Result<Scan<Unit91, u16>, Memory>
+    requires { IsLongEnough awaited }
+    ensures exact { IfOk result (λ scan. scan ≡ unit_scan awaited (unread.old ++ bytes.now)) }
+    ensures within { IfOk result (IsWithin (unread.old ++ bytes.now)) }
+    ensures left { IfOk result (λ scan. unread.new ≡ left_by scan unread.old) }
+{
+    match awaited {
+        Awaited91::Header => scan_greeting(alloc, unread, bytes),
+        Awaited91::Frame(size) => scan_next(alloc, unread, bytes, size),
+        Awaited91::Nothing => Ok(Scan::More),
+    }
+}
 
 /// The protocol header of this kind, with which a container's bytes begin.
 fn scan_greeting_up(bytes: &[u8], kind: Kind10) -> Scan<Unit10, Condition>
@@ -110,17 +168,16 @@ fn queue_unit(bridge: &mut Bridge, alloc: Global, unit: Unit91) -> Result<(), Me
 fn cut_units(
     bridge: &mut Bridge,
     alloc: Global,
-    half: &mut ClientHalf,
+    unread: &mut Unread91,
     bytes: &[u8],
 ) -> Result<usize, Memory>
     requires { bridge.old.state.out_of_memory ≡ false }
     ensures ok { IfOk result (λ at. IsRead bridge.old.state
-        (cut_all Client bridge.old.state (half.old.unread ++ bytes.now))
-        bridge.new.state (half.new.unread ++ drop at bytes.now)) }
+        (cut_all Client bridge.old.state (unread.old ++ bytes.now))
+        bridge.new.state (unread.new ++ drop at bytes.now)) }
     ensures within { IfOk result (λ at. at ≤ length bytes.now) }
-    ensures err { OnErr result (ReadsInPart Client (half.old.unread ++ bytes.now)
+    ensures err { OnErr result (ReadsInPart Client (unread.old ++ bytes.now)
         bridge.old.state bridge.new.state) }
-    ensures sent { half.new.at ≡ half.old.at }
     ensures calm { OnOk result (bridge.new.state.out_of_memory ≡ false) }
     ensures met { OnErr result (bridge.new.state.out_of_memory ≡ true) }
     ensures kept { Keeps bridge.old bridge.new }
@@ -132,14 +189,14 @@ fn cut_units(
     }
     let mut at = 0;
     // There are no more units than bytes. As far as types tell, their number may pass 64 bits.
-    let most = half.len() as u128 + bytes.len() as u128;
+    let most = unread.len() as u128 + bytes.len() as u128;
     for i in 0..most {
-        let kept = half.len();
+        let kept = unread.len();
         let (_, rest) = bytes.split_at(at);
-        match half.scan_unit(alloc, bridge.awaits(), rest) {
+        match scan_unit(alloc, bridge.awaits(), unread, rest) {
             Ok(Scan::More) => return Ok(at),
             Ok(Scan::Bad(code)) => {
-                half.forget();
+                unread.forget();
                 return match queue_unit(bridge, alloc, Unit91::Bad(code)) {
                     Ok(()) => Ok(bytes.len()),
                     Err(error) => Err(error),
@@ -164,25 +221,24 @@ fn cut_units(
 pub fn cut_client(
     bridge: &mut Bridge,
     alloc: Global,
-    half: &mut ClientHalf,
+    unread: &mut Unread91,
     bytes: &[u8],
 ) -> Result<(), Memory>
     requires { bridge.old.state.out_of_memory ≡ false }
     ensures ok { OnOk result (IsRead bridge.old.state
-        (cut_all Client bridge.old.state (half.old.unread ++ bytes.now))
-        bridge.new.state half.new.unread) }
-    ensures err { OnErr result (ReadsInPart Client (half.old.unread ++ bytes.now)
+        (cut_all Client bridge.old.state (unread.old ++ bytes.now))
+        bridge.new.state unread.new) }
+    ensures err { OnErr result (ReadsInPart Client (unread.old ++ bytes.now)
         bridge.old.state bridge.new.state) }
-    ensures sent { half.new.at ≡ half.old.at }
     ensures calm { OnOk result (bridge.new.state.out_of_memory ≡ false) }
     ensures met { OnErr result (bridge.new.state.out_of_memory ≡ true) }
     ensures kept { Keeps bridge.old bridge.new }
     ensures sound { StaysSound bridge.old bridge.new }
 {
-    match cut_units(bridge, alloc, half, bytes) {
+    match cut_units(bridge, alloc, unread, bytes) {
         Ok(at) => {
             let (_, rest) = bytes.split_at(at);
-            match half.append(rest) {
+            match unread.append(rest) {
                 Ok(()) => Ok(()),
                 Err(error) => {
                     bridge.run_out();

@@ -3,9 +3,7 @@
 //! loop may make (the laws of `laws`).
 #![tactic(auto)]
 
-mod client_half;
 mod cutting;
-mod half;
 mod laws;
 mod pair;
 

@@ -14,16 +14,15 @@ ghost use Rattle.gate_pair.specs.PairStates.{Advances, FailedIn, IsOffered, Says
 ghost use Rattle.gate_pair.specs.PairStates.{StaysSound, forgotten, half_of, is_ready, said};
 ghost use Rattle.gate_pair.specs.PairStates.{said_stream, tells_at};
 
-use crate::client_half::ClientHalf;
 use crate::cutting::{cut_client, cut_up, settle_all};
-use crate::half::Half;
 use bridge_core::Bridge;
+use frames_091::Unread91;
 use gate_model::Setup;
 use gate_outside::{End, Linked, Sink};
 use gate_relay::{Loss, Relay};
 use std::alloc::Global;
 use std::marker::Model;
-use wire_base::Memory;
+use wire_base::{ByteText, Memory};
 
 /// A pair of connections.
 #[derive(Drop)]
@@ -31,8 +30,14 @@ pub struct Pair {
     /// What happened last may make lines of the report due.
     telling: bool,
     bridge: Bridge,
-    client: ClientHalf,
-    up: Half,
+    /// The client's bytes that are no unit yet, or that wait.
+    client: Unread91,
+    /// How many bytes of the unit in progress to the client were sent.
+    client_sent: usize,
+    /// The container's bytes that are no unit yet.
+    up: ByteText,
+    /// How many bytes of the unit in progress to the container were sent.
+    up_sent: usize,
 }
 
 impl Model for Pair {
@@ -47,12 +52,12 @@ impl Model for Pair {
 
     ghost view = { λ a. record {
       bridge = a.bridge;
-      client = a.client;
-      up = a.up;
+      client = record { unread = a.client; at = a.client_sent };
+      up = record { unread = a.up; at = a.up_sent };
       telling = a.telling;
     } };
 
-    ghost invariant = { λ a. IsSound a.bridge a.client.at a.up.at };
+    ghost invariant = { λ a. IsSound a.bridge a.client_sent a.up_sent };
 }
 
 /// So many bytes of what is offered to an end were taken. The result is how many of that unit were
@@ -110,7 +115,7 @@ impl Pair {
         ensures { self.new ≡ forgotten self.old }
     {
         self.client.forget();
-        self.up.forget();
+        self.up.truncate(0);
     }
 
     /// A moment was given.
@@ -173,7 +178,7 @@ impl Pair {
     {
         self.telling = true;
         match self.up.append(bytes) {
-            Ok(()) => match cut_up(&mut self.bridge, alloc, self.up.unread()) {
+            Ok(()) => match cut_up(&mut self.bridge, alloc, self.up.as_slice()) {
                 Ok(at) => {
                     self.up.discard(at);
                     Ok(())
@@ -247,8 +252,8 @@ impl Pair {
         ensures { result ≡ (half_of end self.now).at }
     {
         match end {
-            End::Client => self.client.sent(),
-            End::Up => self.up.sent(),
+            End::Client => self.client_sent,
+            End::Up => self.up_sent,
         }
     }
 
@@ -280,14 +285,12 @@ impl Pair {
     {
         match end {
             End::Client => {
-                let at = advance(&mut self.bridge, End::Client, self.client.sent(), count);
-                self.client.set_sent(at);
+                self.client_sent = advance(&mut self.bridge, End::Client, self.client_sent, count);
                 self.telling = false;
             }
             End::Up => {
                 let ends = ends_session(&self.bridge);
-                let at = advance(&mut self.bridge, End::Up, self.up.sent(), count);
-                self.up.set_sent(at);
+                self.up_sent = advance(&mut self.bridge, End::Up, self.up_sent, count);
                 self.telling = ends;
             }
         }
@@ -312,8 +315,10 @@ impl Relay for Pair {
         let site = setup.site(alloc)?;
         Ok(Pair {
             bridge: Bridge::new(alloc, site, number, moment),
-            client: ClientHalf::new(alloc),
-            up: Half::new(alloc),
+            client: Unread91::empty(alloc),
+            client_sent: 0,
+            up: ByteText::empty(alloc),
+            up_sent: 0,
             telling: false,
         })
     }

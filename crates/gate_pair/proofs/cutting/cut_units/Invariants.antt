@@ -8,9 +8,8 @@ use Rattle.gate_pair.proofs.cutting.cut_units.Given as goal
 abbrev pub invariant-loop-i : goal.invariant-loop-i
 invariant-loop-i l = record {
   within : l.at ≤ length l.bytes;
-  sent : l.half.at ≡ l.fn.half.at;
-  runs : Reading Client l.fn.bridge.state l.bridge.state (l.fn.half.unread ++ l.bytes) (l.half.unread ++ drop l.at l.bytes)
-      (length (l.fn.half.unread ++ l.bytes) - l.i);
+  runs : Reading Client l.fn.bridge.state l.bridge.state (l.fn.unread ++ l.bytes) (l.unread ++ drop l.at l.bytes)
+      (length (l.fn.unread ++ l.bytes) - l.i);
   calm : l.bridge.state.out_of_memory ≡ false;
   kept : Keeps l.fn.bridge l.bridge;
   sound : StaysSound l.fn.bridge l.bridge;

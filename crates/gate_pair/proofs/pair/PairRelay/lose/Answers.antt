@@ -6,7 +6,7 @@ use Rattle.gate_relay.specs.Entries as entry
 use Rattle.gate_model.specs.State.{Lost}
 use Rattle.gate_pair.specs.Meaning.{Told, made, tells, told}
 use Rattle.gate_pair.specs.PairStates.{unlined}
-use Rattle.gate_pair.proofs.Saids.{moved_says, pair_of, told_said}
+use Rattle.gate_pair.proofs.Saids.{half, moved_says, pair_of, told_said}
 use Rattle.gate_pair.proofs.pair.PairRelay.lose.Goals as goal
 use Rattle.gate_pair.proofs.pair.PairRelay.lose.Goals.{in-Up, in_default}
 
@@ -20,8 +20,8 @@ other_tells Up how t n = absurd (n refl)
 
 pub returns-clause-entry : goal.returns-clause-entry
 returns-clause-entry c = λ s h e.
-    told_said (pair_of c.lose.new.self c.self.inside.client c.self.inside.up c.match-matches.self) (made (Lost c.args.end c.args.how ∷ []) (told s h)) _
-    (moved_says (Lost c.args.end c.args.how) c.self.inside.bridge c.lose.new.self c.self.inside.client c.self.inside.up c.self.inside.telling c.match-matches.self c.args.self.now
+    told_said (pair_of c.lose.new.self (half c.self.inside.client c.self.inside.client_sent) (half c.self.inside.up c.self.inside.up_sent) c.match-matches.self) (made (Lost c.args.end c.args.how ∷ []) (told s h)) _
+    (moved_says (Lost c.args.end c.args.how) c.self.inside.bridge c.lose.new.self (half c.self.inside.client c.self.inside.client_sent) (half c.self.inside.up c.self.inside.up_sent) c.self.inside.telling c.match-matches.self c.args.self.now
     c.self.view_is c.lose.ensures.step c.lose.ensures.kept (told s h) (ap unlined e))
     (elim c.match-matches.branch [
       | in-Up w ↦ w.self-is ∙ up_tells c.args.end c.args.how (told s h) w.in-Up.is
