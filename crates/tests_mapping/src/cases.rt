@@ -102,42 +102,61 @@ fn props_of(alloc: Global, words: &str) -> Result<Option<Props>, Memory> {
     }
 }
 
-/// A message of AMQP 0-9-1, which stands in four parts; `None` where they are none.
-fn message_of(alloc: Global, words: &str) -> Result<Option<Message091>, Memory> {
-    let (exchange, rest) = words.split_once(',').unwrap_or((words, ""));
-    let (key, rest) = rest.split_once(',').unwrap_or((rest, ""));
-    let (header, body) = rest.split_once(',').unwrap_or((rest, ""));
-    let Some(props) = props_of(alloc, header)? else {
-        return Ok(None);
-    };
-    let Some(exchange) = bytes_of(alloc, exchange)? else {
-        return Ok(None);
-    };
-    let Some(key) = bytes_of(alloc, key)? else {
-        return Ok(None);
-    };
-    let Some(body) = bytes_of(alloc, body)? else {
-        return Ok(None);
-    };
-    Ok(Some(Message091 {
+/// The bytes that words tell; the empty text, and no case, where they tell none.
+fn told(alloc: Global, out: &mut Printed, is_case: &mut bool, words: &str) -> ByteText {
+    match out.find(bytes_of(alloc, words)) {
+        Some(bytes) => bytes,
+        None => {
+            *is_case = false;
+            ByteText::empty(alloc)
+        }
+    }
+}
+
+/// The image of a message of AMQP 0-9-1, or the fault.
+fn put_imaged(alloc: Global, out: &mut Printed, m: &Message091) {
+    match to_10(alloc, m) {
+        Ok(image) => put_image(alloc, out, m, image),
+        Err(fault) => out.debug(&fault),
+    }
+}
+
+/// The same of a message with these properties, by the words for its other parts; whether they are
+/// such.
+fn put_with(
+    alloc: Global,
+    out: &mut Printed,
+    props: Props,
+    exchange: &str,
+    key: &str,
+    body: &str,
+) -> bool {
+    let mut is_case = true;
+    let exchange = told(alloc, out, &mut is_case, exchange);
+    let key = told(alloc, out, &mut is_case, key);
+    let body = told(alloc, out, &mut is_case, body);
+    let m = Message091 {
         exchange,
         key,
         props,
         body,
-    }))
-}
-
-/// The image of a message of AMQP 0-9-1; whether the words are one.
-fn put_to_10(alloc: Global, out: &mut Printed, words: &str) -> bool {
-    let Some(m) = out.find(message_of(alloc, words)) else {
-        return false;
     };
-    match to_10(alloc, &m) {
-        Ok(image) => put_image(alloc, out, &m, image),
-        Err(fault) => out.debug(&fault),
+    if is_case {
+        put_imaged(alloc, out, &m);
     }
     drop(m);
-    true
+    is_case
+}
+
+/// The image of a message of AMQP 0-9-1, which stands in four parts; whether the words are one.
+fn put_to_10(alloc: Global, out: &mut Printed, words: &str) -> bool {
+    let (exchange, rest) = words.split_once(',').unwrap_or((words, ""));
+    let (key, rest) = rest.split_once(',').unwrap_or((rest, ""));
+    let (header, body) = rest.split_once(',').unwrap_or((rest, ""));
+    match out.find(props_of(alloc, header)) {
+        Some(props) => put_with(alloc, out, props, exchange, key, body),
+        None => false,
+    }
 }
 
 /// The message that fills the bytes which words tell; `None` where they are none.
@@ -148,15 +167,19 @@ fn message_10_of(alloc: Global, words: &str) -> Result<Option<Message10>, Memory
     Ok(read_message(alloc, bytes.as_slice())?.ok())
 }
 
-/// A message of AMQP 1.0 in AMQP 0-9-1.
-fn put_091(alloc: Global, out: &mut Printed, message: Message10, queue: &[u8], room: u32) {
+/// A message of AMQP 1.0 in AMQP 0-9-1, from a queue; whether the words for it are such.
+fn put_091(alloc: Global, out: &mut Printed, message: Message10, queue: &str, room: u32) -> bool {
+    let mut is_case = true;
     let again = redelivered(&message);
-    let mapped = to_091(alloc, message, queue, room);
+    let queue = told(alloc, out, &mut is_case, queue);
+    let mapped = to_091(alloc, message, queue.as_slice(), room);
+    drop(queue);
     put_mapped(out, &mapped);
     drop(mapped);
     if again {
         out.put(" | redelivered");
     }
+    is_case
 }
 
 /// The image of a message of AMQP 1.0, from a queue and for a room; whether the words are one.
@@ -166,14 +189,10 @@ fn put_to_091(alloc: Global, out: &mut Printed, words: &str) -> bool {
     let Ok(room) = room.trim().parse() else {
         return false;
     };
-    let Some(queue) = out.find(bytes_of(alloc, queue)) else {
-        return false;
-    };
-    let Some(message) = out.find(message_10_of(alloc, bytes)) else {
-        return false;
-    };
-    put_091(alloc, out, message, queue.as_slice(), room);
-    true
+    match out.find(message_10_of(alloc, bytes)) {
+        Some(message) => put_091(alloc, out, message, queue, room),
+        None => false,
+    }
 }
 
 impl Cases for MappingCases {
