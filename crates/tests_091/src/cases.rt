@@ -9,7 +9,7 @@ use crate::numbers::{changed_text, reader_text};
 use crate::tables::{kinds_text, table_text};
 use crate::words::{line_of, number_first, put_run, short_first, short_of};
 use std::alloc::Global;
-use tests_support::{Cases, Names, part};
+use tests_support::{Cases, Names, Printed, part};
 use wire_base::Memory;
 
 /// The names so far, and the connection of the cases of units.
@@ -72,24 +72,36 @@ fn text_of(alloc: Global, codec: Codec, bytes: &[u8]) -> Result<String, Memory> 
 }
 
 /// The answer at each shorter length, from none on.
-fn put_cuts(alloc: Global, out: &mut String, codec: Codec, bytes: &[u8]) -> Result<(), Memory> {
-    out.push_str(" | cuts")?;
+fn put_cuts(alloc: Global, out: &mut Printed, codec: Codec, bytes: &[u8]) {
+    out.put(" | cuts");
     let mut last = String::new(alloc);
     let mut count = 0usize;
     for size in 0..bytes.len() {
-        let text = text_of(alloc, codec, part(bytes, 0, size))?;
-        if text.as_str() != last.as_str() {
-            put_run(out, short_of(last.as_str()), count)?;
-            count = 0;
+        if let Some(text) = out.take(text_of(alloc, codec, part(bytes, 0, size))) {
+            if text.as_str() != last.as_str() {
+                put_run(out, short_of(last.as_str()), count);
+                count = 0;
+            }
+            last = text;
+            count = count.saturating_add(1);
         }
-        last = text;
-        count = count.saturating_add(1);
     }
-    put_run(out, short_of(last.as_str()), count)
+    put_run(out, short_of(last.as_str()), count);
 }
 
-/// A case of a codec, and each shorter length where that is asked for; `None` where the bytes are
-/// none.
+/// A case of a codec, and each shorter length where that is asked for.
+fn answer_of(alloc: Global, codec: Codec, bytes: &[u8], cuts: bool) -> Result<String, Memory> {
+    let text = text_of(alloc, codec, bytes)?;
+    let mut out = Printed::new(alloc);
+    out.put(text.as_str());
+    drop(text);
+    if cuts {
+        put_cuts(alloc, &mut out, codec, bytes);
+    }
+    out.end()
+}
+
+/// The same of bytes that words tell; `None` where they tell none.
 fn read_text(
     alloc: Global,
     names: &Names,
@@ -100,11 +112,9 @@ fn read_text(
     let Some(bytes) = names.joined(alloc, words)? else {
         return Ok(None);
     };
-    let mut text = text_of(alloc, codec, bytes.as_slice())?;
-    if cuts {
-        put_cuts(alloc, &mut text, codec, bytes.as_slice())?;
-    }
-    Ok(Some(text))
+    let text = answer_of(alloc, codec, bytes.as_slice(), cuts);
+    drop(bytes);
+    text.map(Some)
 }
 
 /// A case of a codec with each shorter length; `None` where the words are none.

@@ -2,7 +2,7 @@
 
 ghost use Rattle.content_091.specs.Writing.{CanPut};
 
-use crate::words::{put_other, put_squeezed, put_written};
+use crate::words::{longer_of, put_longer, put_squeezed};
 use content_091::{
     Assembly, Content, ContentFault, Header91, HeaderFault, Props, Step, put_header, read_header,
 };
@@ -56,20 +56,13 @@ fn header_text(alloc: Global, header: &Header91) -> Result<String, Memory> {
     out.end()
 }
 
-/// The size, the properties, and what is written of the header.
-fn put_notation(
-    alloc: Global,
-    out: &mut String,
-    header: &Header91,
-    bytes: &[u8],
-) -> Result<(), Memory>
+/// What is written of a header.
+fn written_of(alloc: Global, header: &Header91) -> Result<Option<ByteText>, Memory>
     requires { CanPut header.now }
 {
-    let text = header_text(alloc, header)?;
-    put_squeezed(out, text.as_str())?;
     let mut written = ByteText::empty(alloc);
     put_header(&mut written, header)?;
-    put_written(out, written.as_slice(), bytes)
+    Ok(Some(written))
 }
 
 /// A fault and its place.
@@ -78,13 +71,16 @@ fn put_fault(out: &mut Printed, found: At<HeaderFault>) {
     out.put_number("", found.at);
 }
 
-/// A content header that was read of bytes.
+/// A content header that was read of bytes: the size, the properties, and what is written of it.
 fn notation_of(alloc: Global, header: &Header91, bytes: &[u8]) -> Result<String, Memory>
     requires { CanPut header.now }
 {
-    let mut out = String::new(alloc);
-    put_notation(alloc, &mut out, header, bytes)?;
-    Ok(out)
+    let notation = header_text(alloc, header)?;
+    let mut out = Printed::new(alloc);
+    put_squeezed(&mut out, notation.as_str());
+    drop(notation);
+    out.put_written(written_of(alloc, header), 0, bytes);
+    out.end()
 }
 
 /// A fault and its place, as a text of its own.
@@ -106,18 +102,24 @@ fn read_text(alloc: Global, bytes: &[u8]) -> Result<String, Memory> {
     }
 }
 
+/// The content header that fills bytes and one more.
+fn longer_text(alloc: Global, bytes: &[u8]) -> Result<String, Memory> {
+    let longer = longer_of(alloc, bytes, b"\0")?;
+    let text = read_text(alloc, longer.as_slice());
+    drop(longer);
+    text
+}
+
 /// The content header that fills bytes, which are none with one more byte.
 pub fn content_text(alloc: Global, bytes: &[u8]) -> Result<String, Memory> {
-    let mut text = read_text(alloc, bytes)?;
+    let text = read_text(alloc, bytes)?;
+    let mut out = Printed::new(alloc);
+    out.put(text.as_str());
     if text.as_str().starts_with("size") {
-        let mut longer = ByteText::copy_of(alloc, bytes)?;
-        longer.append(b"\0")?;
-        let other = read_text(alloc, longer.as_slice())?;
-        let size = bytes.len();
-        let wanted = format!(in alloc; "Syntax {size}")?;
-        put_other(&mut text, "longer", other.as_str(), wanted.as_str())?;
+        put_longer(alloc, &mut out, longer_text(alloc, bytes), bytes.len());
     }
-    Ok(text)
+    drop(text);
+    out.end()
 }
 
 /// A whole content: the length of its body, its properties, and the bytes.

@@ -2,7 +2,7 @@
 
 ghost use Rattle.methods_091.specs.Writing.{CanPut};
 
-use crate::words::{number_first, put_other, put_squeezed, put_written};
+use crate::words::{longer_of, number_first, put_longer, put_squeezed};
 use methods_091::{
     Method91, MethodFault, ids, put_ack, put_channel_close, put_channel_close_ok,
     put_channel_open_ok, put_close, put_close_ok, put_declare_ok, put_flow_ok, put_method,
@@ -12,39 +12,45 @@ use std::alloc::Global;
 use tests_support::{Printed, part};
 use wire_base::{At, ByteText, Memory};
 
-/// The ids of a method, the method, and what is written of it.
-fn put_notation(
-    alloc: Global,
-    out: &mut String,
-    method: &Method91,
-    bytes: &[u8],
-) -> Result<(), Memory>
+/// What is written of a method.
+fn written_of(alloc: Global, method: &Method91) -> Result<Option<ByteText>, Memory>
     requires { CanPut method.now }
 {
-    let (class, id) = ids(method);
-    write!(out, "{class} {id} ")?;
-    let notation = format!(in alloc; "{method:?}")?;
-    put_squeezed(out, notation.as_str())?;
     let mut written = ByteText::empty(alloc);
     put_method(&mut written, method)?;
-    put_written(out, written.as_slice(), bytes)
+    Ok(Some(written))
 }
 
-/// A method that was read of bytes.
+/// A method as it is shown to a programmer.
+fn debug_text(alloc: Global, method: &Method91) -> Result<String, Memory> {
+    let mut out = Printed::new(alloc);
+    out.debug(method);
+    out.end()
+}
+
+/// The ids of a method that was read of bytes, the method, and what is written of it.
 fn notation_of(alloc: Global, method: &Method91, bytes: &[u8]) -> Result<String, Memory>
     requires { CanPut method.now }
 {
-    let mut out = String::new(alloc);
-    put_notation(alloc, &mut out, method, bytes)?;
-    Ok(out)
+    let notation = debug_text(alloc, method)?;
+    let mut out = Printed::new(alloc);
+    let (class, id) = ids(method);
+    out.show(class);
+    out.put(" ");
+    out.show(id);
+    out.put(" ");
+    put_squeezed(&mut out, notation.as_str());
+    drop(notation);
+    out.put_written(written_of(alloc, method), 0, bytes);
+    out.end()
 }
 
 /// A fault and its place.
 fn fault_of(alloc: Global, found: At<MethodFault>) -> Result<String, Memory> {
-    let fault = found.fault;
-    let at = found.at;
-    let text = format!(in alloc; "{fault:?} {at}")?;
-    Ok(text)
+    let mut out = Printed::new(alloc);
+    out.debug(found.fault);
+    out.put_number("", found.at);
+    out.end()
 }
 
 /// The method that fills bytes, with what is written of it.
@@ -59,18 +65,24 @@ fn read_text(alloc: Global, bytes: &[u8]) -> Result<String, Memory> {
     }
 }
 
+/// The method that fills bytes and one more.
+fn longer_text(alloc: Global, bytes: &[u8]) -> Result<String, Memory> {
+    let longer = longer_of(alloc, bytes, b"\0")?;
+    let text = read_text(alloc, longer.as_slice());
+    drop(longer);
+    text
+}
+
 /// The method that fills bytes, which are none with one more byte.
 pub fn method_text(alloc: Global, bytes: &[u8]) -> Result<String, Memory> {
-    let mut text = read_text(alloc, bytes)?;
+    let text = read_text(alloc, bytes)?;
+    let mut out = Printed::new(alloc);
+    out.put(text.as_str());
     if !text.as_str().starts_with("Syntax") && !text.as_str().starts_with("UnknownMethod") {
-        let mut longer = ByteText::copy_of(alloc, bytes)?;
-        longer.append(b"\0")?;
-        let other = read_text(alloc, longer.as_slice())?;
-        let size = bytes.len();
-        let wanted = format!(in alloc; "Syntax {size}")?;
-        put_other(&mut text, "longer", other.as_str(), wanted.as_str())?;
+        put_longer(alloc, &mut out, longer_text(alloc, bytes), bytes.len());
     }
-    Ok(text)
+    drop(text);
+    out.end()
 }
 
 /// The bytes that were written over others, and whether those behind them stayed.

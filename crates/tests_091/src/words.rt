@@ -1,8 +1,8 @@
 //! Parts of lines and of answers.
 
 use std::alloc::Global;
-use tests_support::put_bytes;
-use wire_base::Memory;
+use tests_support::Printed;
+use wire_base::{ByteText, Memory};
 
 /// The number before the first blank, and the text behind it.
 pub fn number_first(text: &str) -> Option<(u64, &str)> {
@@ -17,38 +17,48 @@ pub fn short_first(text: &str) -> Option<(u16, &str)> {
     Some((u16::try_from(number).ok()?, rest))
 }
 
-/// What is written: `=` where it is what was read.
-pub fn put_written(out: &mut String, written: &[u8], read: &[u8]) -> Result<(), Memory> {
-    if written == read {
-        out.push_str(" | =")?;
-        return Ok(());
-    }
-    out.push_str(" |")?;
-    put_bytes(out, written)
+/// Bytes with others behind them.
+pub fn longer_of(alloc: Global, bytes: &[u8], more: &[u8]) -> Result<ByteText, Memory> {
+    let mut longer = ByteText::copy_of(alloc, bytes)?;
+    longer.append(more)?;
+    Ok(longer)
 }
 
 /// Another answer, where it differs from the one that it should be.
-pub fn put_other(out: &mut String, title: &str, found: &str, wanted: &str) -> Result<(), Memory> {
-    if found != wanted {
-        out.push_str(" | ")?;
-        out.push_str(title)?;
-        out.push_str(": ")?;
-        out.push_str(found)?;
+pub fn put_other(out: &mut Printed, title: &str, found: Result<String, Memory>, wanted: &str) {
+    if let Some(found) = out.take(found) {
+        if found.as_str() != wanted {
+            out.put(" | ");
+            out.put(title);
+            out.put(": ");
+            out.put(found.as_str());
+        }
+        drop(found);
     }
-    Ok(())
+}
+
+/// The answer to bytes with one more behind them, where it isn't a fault behind the first, which
+/// are so many.
+pub fn put_longer(alloc: Global, out: &mut Printed, found: Result<String, Memory>, size: usize) {
+    let mut fault = Printed::new(alloc);
+    fault.put_number("Syntax", size);
+    if let Some(wanted) = out.take(fault.end()) {
+        put_other(out, "longer", found, wanted.as_str());
+        drop(wanted);
+    }
 }
 
 /// An answer so many times.
-pub fn put_run(out: &mut String, answer: &str, count: usize) -> Result<(), Memory> {
+pub fn put_run(out: &mut Printed, answer: &str, count: usize) {
     if count == 0 {
-        return Ok(());
+        return;
     }
-    out.push_str(" ")?;
-    out.push_str(answer)?;
+    out.put(" ");
+    out.put(answer);
     if count > 1 {
-        write!(out, "*{count}")?;
+        out.put("*");
+        out.show(count);
     }
-    Ok(())
 }
 
 /// A fault and its place, or the place alone of a `Syntax`.
@@ -58,35 +68,38 @@ pub fn short_of(answer: &str) -> &str {
 
 /// A text that ends with a line feed.
 pub fn line_of(alloc: Global, text: &str) -> Result<String, Memory> {
-    let line = format!(in alloc; "{text}\n")?;
-    Ok(line)
+    let mut out = Printed::new(alloc);
+    out.put(text);
+    out.put("\n");
+    out.end()
 }
 
 /// A letter so many times.
-fn put_letters(out: &mut String, letter: u8, count: usize) -> Result<(), Memory> {
+fn put_letters(out: &mut Printed, letter: u8, count: usize) {
     let letter = char::from(letter);
     if count >= 16 {
-        write!(out, "{letter}*{count}")?;
-        return Ok(());
+        out.show(letter);
+        out.put("*");
+        out.show(count);
+        return;
     }
     for _ in 0..count {
-        out.push(letter)?;
+        out.show(letter);
     }
-    Ok(())
 }
 
 /// Adds a text, in which a letter that stands sixteen times or more in a row is told once with its
 /// count.
-pub fn put_squeezed(out: &mut String, text: &str) -> Result<(), Memory> {
+pub fn put_squeezed(out: &mut Printed, text: &str) {
     let mut last = 0u8;
     let mut count = 0usize;
     for letter in text.as_bytes() {
         if *letter != last {
-            put_letters(out, last, count)?;
+            put_letters(out, last, count);
             last = *letter;
             count = 0;
         }
         count = count.saturating_add(1);
     }
-    put_letters(out, last, count)
+    put_letters(out, last, count);
 }
