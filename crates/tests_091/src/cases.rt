@@ -254,10 +254,16 @@ impl Cases for Cases091 {
             });
         }
         if let Some(text) = connection_text(alloc, &self.names, &mut self.made, line)? {
-            return Ok(Some(line_of(alloc, text.as_str())?));
+            let line = line_of(alloc, text.as_str());
+            drop(text);
+            return line.map(Some);
         }
         match case_text(alloc, &self.names, line)? {
-            Some(text) => Ok(Some(line_of(alloc, text.as_str().trim())?)),
+            Some(text) => {
+                let line = line_of(alloc, text.as_str().trim());
+                drop(text);
+                line.map(Some)
+            }
             None => Ok(None),
         }
     }

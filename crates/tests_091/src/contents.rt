@@ -146,6 +146,7 @@ fn put_step(out: &mut Printed, read: &Result<Step, ContentFault>) {
 fn put_given(out: &mut Printed, given: Result<Result<Step, ContentFault>, Memory>) {
     if let Some(read) = out.take(given) {
         put_step(out, &read);
+        drop(read);
     }
 }
 
@@ -179,7 +180,11 @@ fn put_told(
 ) -> bool {
     let (kind, rest) = words.split_once(' ').unwrap_or((words, ""));
     match out.find(names.joined(alloc, rest)) {
-        Some(bytes) => put_frame(alloc, out, assembly, kind, bytes.as_slice()),
+        Some(bytes) => {
+            let is_case = put_frame(alloc, out, assembly, kind, bytes.as_slice());
+            drop(bytes);
+            is_case
+        }
         None => false,
     }
 }
@@ -208,5 +213,6 @@ pub fn frames_text(alloc: Global, names: &Names, words: &str) -> Result<Option<S
     let mut out = Printed::new(alloc);
     let mut assembly = Assembly::begin();
     let is_case = put_frames(alloc, &mut out, names, &mut assembly, words);
+    drop(assembly);
     out.end_if(is_case)
 }
