@@ -2,13 +2,13 @@
 
 ghost use Rattle.std.specs.Prelude.{◌≡◌, [], IfOk};
 
-use crate::runs::{Kind, LOG_ROOM, add_calls, kind_of};
+use crate::runs::{LOG_ROOM, add_calls, is_front_part, only_shuts_from};
 use crate::scenario::{Scenario, Way, faults, script_of};
 use gate_capture::{next_entry, next_words};
 use gate_command::{CaptureSink, Status, gateway};
 use gate_outside::{Entries, MemorySink, MemorySource, Ports, ScriptPorts, Sink, Source};
 use std::alloc::Global;
-use tests_support::{Printed, part};
+use tests_support::Printed;
 use wire_base::{ByteText, ItemList, Memory, Stop};
 
 /// What the gateway did for some words.
@@ -169,77 +169,62 @@ pub fn call_gateway(
     called_by(alloc, &call)
 }
 
-/// The words that ask for a replay.
-fn replay_words(alloc: Global) -> Result<Vec<String>, Memory> {
-    let word = String::from_str(alloc, "replay")?;
-    let words = Vec::from_array(alloc, [word])?;
-    Ok(words)
-}
-
-/// Calls the gateway to replay a capture.
-pub fn call_replay(alloc: Global, scenario: &Scenario, capture: &[u8]) -> Result<Called, Memory> {
-    let words = replay_words(alloc)?;
+/// Calls the gateway for words that replay a capture.
+pub fn call_replay(
+    alloc: Global,
+    scenario: &Scenario,
+    words: &Vec<String>,
+    capture: &[u8],
+) -> Result<Called, Memory> {
     let call = Call {
         scenario,
-        words: &words,
+        words,
         input: capture,
         room: scenario.numbers.capture,
         lost: None,
     };
-    let called = called_by(alloc, &call);
-    drop(words);
-    called
+    called_by(alloc, &call)
 }
 
-/// How many entries stand whole in the front of a capture; `None` where the start doesn't.
-fn whole_entries(alloc: Global, bytes: &[u8]) -> Result<Option<usize>, Memory> {
-    let Ok((_, mut rest)) = next_words(bytes.len(), bytes) else {
-        return Ok(None);
-    };
+/// How many entries stand whole in the front of what is behind the start of a capture of so many
+/// bytes.
+fn whole_entries(alloc: Global, size: usize, entries: &[u8]) -> Result<usize, Memory> {
+    let mut rest = entries;
     let mut count = 0usize;
-    for _ in 0..bytes.len() {
-        match next_entry(alloc, bytes.len(), rest) {
+    for _ in 0..size {
+        match next_entry(alloc, size, rest) {
             Ok((entry, after)) => {
                 drop(entry);
                 rest = after;
             }
-            Err(Stop::Fault(_)) => return Ok(Some(count)),
+            Err(Stop::Fault(_)) => return Ok(count),
             Err(Stop::Memory) => return Err(Memory),
         }
         count = count.saturating_add(1);
     }
-    Ok(Some(count))
-}
-
-/// Behind a place ends are shut and nothing else is called; the first is made there, whatever it
-/// is.
-fn only_shuts_from(calls: &Entries, at: usize) -> bool {
-    for k in 0..calls.len() {
-        if let Some(entry) = calls.get(k)
-            && k > at
-            && kind_of(entry) != Kind::Shut
-        {
-            return false;
-        }
-    }
-    calls.len() > at
+    Ok(count)
 }
 
 /// The call whose entry was lost is the last but for shuts; where the start was lost, none is made.
 fn stops_there(alloc: Global, call: &Called) -> Result<bool, Memory> {
-    match whole_entries(alloc, call.capture.as_slice())? {
-        Some(count) => Ok(only_shuts_from(&call.calls, count)),
-        None => Ok(call.calls.len() == 0),
-    }
+    let bytes = call.capture.as_slice();
+    let Ok((_, entries)) = next_words(bytes.len(), bytes) else {
+        return Ok(call.calls.len() == 0);
+    };
+    let count = whole_entries(alloc, bytes.len(), entries)?;
+    Ok(only_shuts_from(&call.calls, count))
 }
 
 /// What a capture holds that failed is a front part of the whole one, and the service ended for
 /// that.
 fn is_front(alloc: Global, call: &Called, whole: &Called) -> Result<bool, Memory> {
-    let (held, all) = (call.capture.as_slice(), whole.capture.as_slice());
-    let is_part = held.len() < all.len() && held == part(all, 0, held.len());
-    let told = call.report.as_slice().ends_with(b"fault: capture\n");
-    Ok(is_part && told && call.status == Status::Outside && stops_there(alloc, call)?)
+    if call.status == Status::Outside
+        && is_front_part(call.capture.as_slice(), whole.capture.as_slice())
+        && call.report.as_slice().ends_with(b"fault: capture\n")
+    {
+        return stops_there(alloc, call);
+    }
+    Ok(false)
 }
 
 /// Whether a call is as it must be whose capture has room for so many bytes, fewer than it needs.

@@ -1,6 +1,6 @@
 //! The lines of the input.
 
-use crate::command::{put_command, setup_of};
+use crate::command::{put_command, set_setup};
 use crate::plays::put_play;
 use crate::runs::Peer;
 use crate::scenario::{Numbers, Scenario, Sent, Taken};
@@ -183,18 +183,6 @@ fn add_input(
     }
 }
 
-/// Sets what the pairs share; whether the words tell it.
-fn add_setup(out: &mut Printed, alloc: Global, scenario: &mut Scenario, text: &str) -> bool {
-    match out.find(setup_of(alloc, text)) {
-        Some(mut setup) => {
-            std::mem::swap(&mut scenario.setup, &mut setup);
-            drop(setup);
-            true
-        }
-        None => false,
-    }
-}
-
 /// What a peer does, or a number; whether it is either.
 fn take_other(
     out: &mut Printed,
@@ -228,7 +216,7 @@ fn take_line(
     match first {
         "name" => out.take(names.add(alloc, rest)).unwrap_or(false),
         "input" => add_input(out, alloc, names, &mut scenario.input, rest),
-        "setup" => add_setup(out, alloc, scenario, rest),
+        "setup" => set_setup(out, alloc, &mut scenario.setup, rest),
         _ => take_other(out, alloc, names, scenario, first, rest),
     }
 }

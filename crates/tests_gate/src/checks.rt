@@ -1,12 +1,12 @@
 //! Plays in which a call fails: what must hold of each, whichever call it is.
 
-use crate::runs::{Kind, Peer, Run, kind_of, peer_of};
+use crate::runs::{Kind, Peer, Run, is_front_part, kind_of, only_shuts_from, peer_of};
 use crate::scenario::{Scenario, Way, failed, played, reported};
 use crate::telling::put_report;
 use gate_outside::{Accepted, Got, Linked, LogEntry, Put};
 use gate_runs::{Outside, Served};
 use std::alloc::Global;
-use tests_support::{Printed, part};
+use tests_support::Printed;
 use wire_base::Memory;
 
 /// Each pair that was accepted was closed.
@@ -26,23 +26,20 @@ fn is_all_shut(alloc: Global, run: &Run) -> Result<bool, Memory> {
     if run.count_of(Kind::Shut) != run.opened_count() {
         return Ok(false);
     }
-    let closed = run.closed(alloc)?;
+    let mut closed = Vec::new(alloc);
+    let added = run.add_closed(&mut closed);
     let are_closed = are_closed(run, closed.as_slice());
     drop(closed);
+    added?;
     Ok(are_closed)
 }
 
 /// Whether a report has a line of a publish or a delivery.
 fn tells_of_life(report: &[u8]) -> bool {
-    let Ok(text) = std::str::from_utf8(report) else {
-        return false;
-    };
-    for line in text.lines() {
-        if line.split_once(" life ").is_some() {
-            return true;
-        }
+    match std::str::from_utf8(report) {
+        Ok(text) => text.split_once(" life ").is_some(),
+        Err(_) => false,
     }
-    false
 }
 
 /// The report is this text, which has a line for each pair that closed. One that tells of publishes
@@ -51,19 +48,6 @@ fn is_report(run: &Run, lines: Printed) -> Result<bool, Memory> {
     let lines = lines.end()?;
     let report = run.report.as_slice();
     Ok(report == lines.as_bytes() || tells_of_life(report))
-}
-
-/// Behind a place ends are shut and nothing else is called.
-fn only_shuts_follow(run: &Run, at: usize) -> bool {
-    for k in 0..run.calls.len() {
-        if let Some(entry) = run.calls.get(k)
-            && k > at
-            && kind_of(entry) != Kind::Shut
-        {
-            return false;
-        }
-    }
-    true
 }
 
 /// Behind a place an end is shut, before anything is called for another pair, and nothing else is
@@ -110,7 +94,7 @@ fn tells_accept(alloc: Global, run: &Run) -> Result<bool, Memory> {
 
 /// After a failed accept each live pair is shut, and nothing else is called.
 fn accept_failed(alloc: Global, run: &Run, at: usize) -> Result<bool, Memory> {
-    let is_right = run.served == Served::Fault(Outside::Accept) && only_shuts_follow(run, at);
+    let is_right = run.served == Served::Fault(Outside::Accept) && only_shuts_from(&run.calls, at);
     Ok(is_right && tells_accept(alloc, run)?)
 }
 
@@ -217,12 +201,10 @@ fn lives_told(alloc: Global, run: &Run) -> Result<String, Memory> {
     text.end()
 }
 
-/// Whether a text is none of those before a place.
-fn is_new(texts: &Vec<String>, at: usize, text: &str) -> bool {
-    for k in 0..at {
-        if let Some(other) = texts.get(k)
-            && other.as_str() == text
-        {
+/// Whether a text is none of these.
+fn is_new(texts: &[String], text: &str) -> bool {
+    for other in texts {
+        if other.as_str() == text {
             return false;
         }
     }
@@ -242,14 +224,19 @@ fn put_places(out: &mut Printed, texts: &Vec<String>, text: &str) {
     out.put(text);
 }
 
+/// The text at a place behind all its places, if it says something and that is the first of them.
+fn put_first(out: &mut Printed, texts: &Vec<String>, at: usize, text: &str) {
+    let before = texts.as_slice().get(..at).unwrap_or(&[]);
+    if !text.is_empty() && is_new(before, text) {
+        put_places(out, texts, text);
+    }
+}
+
 /// Each text that says something once, behind its places.
 fn put_texts(out: &mut Printed, texts: &Vec<String>) {
     for k in 0..texts.len() {
-        if let Some(text) = texts.get(k)
-            && !text.is_empty()
-            && is_new(texts, k, text.as_str())
-        {
-            put_places(out, texts, text.as_str());
+        if let Some(text) = texts.get(k) {
+            put_first(out, texts, k, text.as_str());
         }
     }
 }
@@ -330,7 +317,7 @@ fn stops_at_once(run: &Run, lines: usize) -> bool {
 /// its failure.
 fn is_front(alloc: Global, run: &Run, plain: &Run) -> Result<bool, Memory> {
     let (held, whole) = (run.report.as_slice(), plain.report.as_slice());
-    let is_part = held.len() < whole.len() && held == part(whole, 0, held.len());
+    let is_part = is_front_part(held, whole);
     let ended = run.served == Served::Fault(Outside::Out);
     Ok(is_part && ended && stops_at_once(run, lines_in(whole)) && is_all_shut(alloc, run)?)
 }

@@ -15,81 +15,76 @@ fn add_word(alloc: Global, words: &mut Vec<String>, word: &str) -> Result<(), Me
     Ok(())
 }
 
+/// Adds the word that these bytes are; whether they are one.
+fn add_told(out: &mut Printed, alloc: Global, words: &mut Vec<String>, bytes: &[u8]) -> bool {
+    match std::str::from_utf8(bytes) {
+        Ok(word) => out.take(add_word(alloc, words, word)).is_some(),
+        Err(_) => false,
+    }
+}
+
 /// Adds the word that bytes tell; whether they are told rightly.
-fn add_quoted(alloc: Global, words: &mut Vec<String>, text: &str) -> Result<bool, Memory> {
-    let Some(bytes) = bytes_of(alloc, text)? else {
-        return Ok(false);
-    };
-    match std::str::from_utf8(bytes.as_slice()) {
-        Ok(word) => {
-            add_word(alloc, words, word)?;
-            Ok(true)
+fn add_quoted(out: &mut Printed, alloc: Global, words: &mut Vec<String>, text: &str) -> bool {
+    match out.find(bytes_of(alloc, text)) {
+        Some(bytes) => {
+            let is_added = add_told(out, alloc, words, bytes.as_slice());
+            drop(bytes);
+            is_added
         }
-        Err(_) => Ok(false),
+        None => false,
     }
 }
 
-/// Adds the words between bars, each as it is, or told in bytes where it begins with a quote;
-/// whether they are told rightly.
-fn add_words(alloc: Global, words: &mut Vec<String>, text: &str) -> Result<bool, Memory> {
+/// Adds a word as it is, or told in bytes where it begins with a quote; whether it is told rightly.
+fn add_part(out: &mut Printed, alloc: Global, words: &mut Vec<String>, part: &str) -> bool {
+    if part.starts_with('"') {
+        add_quoted(out, alloc, words, part)
+    } else {
+        out.take(add_word(alloc, words, part)).is_some()
+    }
+}
+
+/// Adds the words between bars; whether they are told rightly.
+fn add_words(out: &mut Printed, alloc: Global, words: &mut Vec<String>, text: &str) -> bool {
     for part in text.split('|') {
-        if !part.starts_with('"') {
-            add_word(alloc, words, part)?;
-        } else if !add_quoted(alloc, words, part)? {
-            return Ok(false);
+        if !add_part(out, alloc, words, part) {
+            return false;
         }
     }
-    Ok(true)
+    true
 }
 
-/// The words between bars behind a first one, if there is one; `None` where they are told wrongly.
-fn words_behind(
-    alloc: Global,
-    first: Option<&str>,
-    text: &str,
-) -> Result<Option<Vec<String>>, Memory> {
+/// Changes what pairs share for what is asked of a service; whether one is asked for.
+fn change_for(setup: &mut Setup, asked: &mut Asked) -> bool {
+    match asked {
+        Asked::Serve { setup: other, .. } => {
+            std::mem::swap(setup, other);
+            true
+        }
+        _ => false,
+    }
+}
+
+/// Sets what pairs share by the words of a service; whether they are such words.
+fn set_by(out: &mut Printed, alloc: Global, setup: &mut Setup, words: &Vec<String>) -> bool {
+    match out.take(read_words(alloc, words)) {
+        Some(Ok(mut asked)) => {
+            let is_service = change_for(setup, &mut asked);
+            drop(asked);
+            is_service
+        }
+        Some(Err(_)) | None => false,
+    }
+}
+
+/// Sets what pairs share by the words between bars behind `serve`; whether they are told rightly.
+pub fn set_setup(out: &mut Printed, alloc: Global, setup: &mut Setup, text: &str) -> bool {
     let mut words = Vec::new(alloc);
-    if let Some(first) = first {
-        add_word(alloc, &mut words, first)?;
-    }
-    match add_words(alloc, &mut words, text) {
-        Ok(true) => Ok(Some(words)),
-        Ok(false) => {
-            drop(words);
-            Ok(None)
-        }
-        Err(memory) => {
-            drop(words);
-            Err(memory)
-        }
-    }
-}
-
-/// The words between bars; none where the text is empty.
-fn words_of(alloc: Global, text: &str) -> Result<Option<Vec<String>>, Memory> {
-    if text.is_empty() {
-        return Ok(Some(Vec::new(alloc)));
-    }
-    words_behind(alloc, None, text)
-}
-
-/// What the pairs of a service share by its words; `None` where they ask for something else.
-fn setup_asked(alloc: Global, words: &Vec<String>) -> Result<Option<Setup>, Memory> {
-    match read_words(alloc, words)? {
-        Ok(Asked::Serve { setup, .. }) => Ok(Some(setup)),
-        Ok(_) | Err(_) => Ok(None),
-    }
-}
-
-/// What the pairs of a service share by the words between bars behind `serve`; `None` where they
-/// are told wrongly.
-pub fn setup_of(alloc: Global, text: &str) -> Result<Option<Setup>, Memory> {
-    let Some(words) = words_behind(alloc, Some("serve"), text)? else {
-        return Ok(None);
-    };
-    let setup = setup_asked(alloc, &words);
+    let is_set = add_part(out, alloc, &mut words, "serve")
+        && add_words(out, alloc, &mut words, text)
+        && set_by(out, alloc, setup, &words);
     drop(words);
-    setup
+    is_set
 }
 
 /// A command without options.
@@ -221,14 +216,29 @@ fn put_gateway(out: &mut Printed, alloc: Global, scenario: &Scenario, words: &Ve
     }
 }
 
+/// What the gateway does for words that replay a capture.
+fn put_replayed(
+    out: &mut Printed,
+    alloc: Global,
+    scenario: &Scenario,
+    words: &Vec<String>,
+    capture: &[u8],
+) {
+    if let Some(again) = out.take(call_replay(alloc, scenario, words, capture)) {
+        put_called(out, &again);
+        drop(again);
+    }
+}
+
 /// What the replay of a capture does, behind the count of the calls that it was made of.
 fn put_replay(out: &mut Printed, alloc: Global, scenario: &Scenario, first: &Called) {
     out.show(first.calls.len());
     out.put(" calls, again: ");
-    if let Some(again) = out.take(call_replay(alloc, scenario, first.capture.as_slice())) {
-        put_called(out, &again);
-        drop(again);
+    let mut words = Vec::new(alloc);
+    if add_part(out, alloc, &mut words, "replay") {
+        put_replayed(out, alloc, scenario, &words, first.capture.as_slice());
     }
+    drop(words);
 }
 
 /// What the gateway does for words that ask for a capture, and then to replay it.
@@ -289,12 +299,9 @@ pub fn put_command(out: &mut Printed, alloc: Global, scenario: &Scenario, line: 
     if !matches!(verb, "words" | "gateway" | "again" | "uncaptured") {
         return false;
     }
-    match out.find(words_of(alloc, text)) {
-        Some(words) => {
-            let is_case = put_for(out, alloc, scenario, verb, &words);
-            drop(words);
-            is_case
-        }
-        None => false,
-    }
+    let mut words = Vec::new(alloc);
+    let are_told = text.is_empty() || add_words(out, alloc, &mut words, text);
+    let is_case = are_told && put_for(out, alloc, scenario, verb, &words);
+    drop(words);
+    is_case
 }

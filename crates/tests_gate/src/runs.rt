@@ -119,6 +119,25 @@ pub fn count_after(count: usize, answer: Put) -> usize {
     }
 }
 
+/// Behind a place ends are shut and nothing else is called; the first is made there, whatever it
+/// is.
+pub fn only_shuts_from(calls: &Entries, at: usize) -> bool {
+    for k in 0..calls.len() {
+        if let Some(entry) = calls.get(k)
+            && k > at
+            && kind_of(entry) != Kind::Shut
+        {
+            return false;
+        }
+    }
+    calls.len() > at
+}
+
+/// What was held is a front part of the whole, and not all of it.
+pub fn is_front_part(held: &[u8], whole: &[u8]) -> bool {
+    held.len() < whole.len() && whole.starts_with(held)
+}
+
 /// What a run of the service did.
 #[derive(Drop)]
 pub struct Run {
@@ -231,15 +250,14 @@ impl Run {
         }
     }
 
-    /// The pairs of which all ends were shut, in order.
-    pub fn closed(&self, alloc: Global) -> Result<Vec<u32>, Memory> {
-        let mut numbers = Vec::new(alloc);
+    /// Adds the pairs of which all ends were shut, in order.
+    pub fn add_closed(&self, numbers: &mut Vec<u32>) -> Result<(), Memory> {
         for k in 0..self.calls.len() {
             if let Some(pair) = self.closed_at(k) {
                 numbers.push(pair)?;
             }
         }
-        Ok(numbers)
+        Ok(())
     }
 
     /// How many ends were opened.

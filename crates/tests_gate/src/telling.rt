@@ -1,12 +1,12 @@
 //! What is printed of a play.
 
-use crate::closes::{close, up_close};
+use crate::closes::{is_close, is_plain_up_close, is_up_close};
 use crate::runs::{Kind, Peer, Run, count_after, peer_of};
 use gate_outside::{End, Got, Linked, LogEntry, Put};
 use std::alloc::Global;
 use std::fmt::Debug;
 use tests_support::{Names, Printed, part};
-use wire_base::{ByteText, Memory};
+use wire_base::ByteText;
 
 /// A number of two bytes at a place.
 fn number_at(bytes: &[u8], at: usize) -> u16 {
@@ -17,7 +17,7 @@ fn number_at(bytes: &[u8], at: usize) -> u16 {
 }
 
 /// connection.close by its reply code, class id, method id and text; whether it is one.
-fn put_close(out: &mut Printed, alloc: Global, bytes: &[u8]) -> bool {
+fn put_close(out: &mut Printed, bytes: &[u8]) -> bool {
     let ids = bytes.len().saturating_sub(5);
     let Ok(text) = std::str::from_utf8(part(bytes, 14, ids)) else {
         return false;
@@ -25,7 +25,7 @@ fn put_close(out: &mut Printed, alloc: Global, bytes: &[u8]) -> bool {
     let code = number_at(bytes, 11);
     let class = number_at(bytes, ids);
     let method = number_at(bytes, ids.saturating_add(2));
-    if !is_same(out, close(alloc, code, text, class, method), bytes) {
+    if !is_close(bytes, code, text.as_bytes(), class, method) {
         return false;
     }
     out.put(" close ");
@@ -39,38 +39,26 @@ fn put_close(out: &mut Printed, alloc: Global, bytes: &[u8]) -> bool {
     true
 }
 
-/// What was made is these bytes.
-fn is_same(out: &mut Printed, made: Result<ByteText, Memory>, bytes: &[u8]) -> bool {
-    match out.take(made) {
-        Some(made) => made.as_slice() == bytes,
-        None => false,
-    }
-}
-
 /// The close of a container's connection by its condition; whether it is one.
-fn put_up_close(out: &mut Printed, alloc: Global, bytes: &[u8]) -> bool {
-    if is_same(out, up_close(alloc, None), bytes) {
+fn put_up_close(out: &mut Printed, bytes: &[u8]) -> bool {
+    if is_plain_up_close(bytes) {
         out.put(" close");
         return true;
     }
     let condition = part(bytes, 22, bytes.len());
-    let Ok(text) = std::str::from_utf8(condition) else {
-        return false;
-    };
-    if !is_same(out, up_close(alloc, Some(condition)), bytes) {
-        return false;
+    match std::str::from_utf8(condition) {
+        Ok(text) if is_up_close(bytes, condition) => {
+            out.put(" close ");
+            out.put(text);
+            true
+        }
+        _ => false,
     }
-    out.put(" close ");
-    out.put(text);
-    true
 }
 
 /// A unit: by its name, as a close, or its bytes.
 fn put_unit(out: &mut Printed, alloc: Global, names: &Names, bytes: &[u8]) {
-    if put_name(out, alloc, names, bytes)
-        || put_close(out, alloc, bytes)
-        || put_up_close(out, alloc, bytes)
-    {
+    if put_name(out, alloc, names, bytes) || put_close(out, bytes) || put_up_close(out, bytes) {
         return;
     }
     out.put_bytes(bytes);
