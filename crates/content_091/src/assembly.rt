@@ -1,7 +1,8 @@
 //! Putting a content together (AMQP 0-9-1 4.2.6): a content header, and body frames up to the size
 //! that it tells.
 
-ghost use Rattle.std.specs.Prelude.{◌≡◌, ℕ, List, [], ◌∷◌, ◌++◌, IfOk, IfErr, OnErr};
+ghost use Rattle.std.specs.Prelude.{◌≡◌, ℕ, List, [], ◌∷◌, ◌++◌, IfOk, IfErr, OnOk};
+ghost use Rattle.std.specs.Prelude.{OnErr};
 ghost use Rattle.content_091.specs.Assembling.{HasBegun, is_open, IsOpen, HasTaken, Joins, Starts};
 ghost use Rattle.content_091.specs.Assembling.{Adds, Grows, IsTooMuch, IsHeaderRefusal};
 ghost use Rattle.content_091.specs.Assembling.{IsBodyRefusal};
@@ -63,8 +64,8 @@ enum Stage {
     Whole,
 }
 
-/// A content that is put together from the frames behind its method. What comes into its body is
-/// copied once.
+/// A content that is put together from the frames behind its method. Its body begins as the first
+/// payload that comes, which is moved there, and the bytes of further ones are copied.
 #[derive(Debug, Drop)]
 pub struct Assembly {
     stage: Stage,
@@ -144,19 +145,20 @@ impl Assembly {
     ///
     /// `Unexpected` where no header was taken, and `Overrun` where the body would pass the size. A
     /// refusal leaves the content as it was, and so does `Memory`, where the allocator has no room.
-    pub fn body(&mut self, payload: &[u8]) -> Result<Result<Step, ContentFault>, Memory>
+    /// The payload is let go then.
+    pub fn body(&mut self, payload: ByteText) -> Result<Result<Step, ContentFault>, Memory>
         requires { IsOpen self.old }
         // The body is longer by the payload, and the content is whole where nothing more is to
         // come.
-        ensures taken { IfOk result (λ read. IfOk read (Grows self.old payload.now self.new)) }
+        ensures taken { IfOk result (λ read. IfOk read (Grows self.old payload self.new)) }
         // So the body is all payloads that were given, one after another, and is whole where they
         // are as long as the header says.
         ensures joined { (header : List ℕ) (payloads : List (List ℕ))
             → HasTaken self.old header payloads
             → IfOk result (λ read.
-            IfOk read (Joins self.new header (payloads ++ payload.now ∷ []))) }
+            IfOk read (Joins self.new header (payloads ++ payload ∷ []))) }
         // Why a payload is refused.
-        ensures refused { IfOk result (λ read. IfErr read (IsBodyRefusal self.old payload.now)) }
+        ensures refused { IfOk result (λ read. IfErr read (IsBodyRefusal self.old payload)) }
         ensures kept { IfOk result (λ read. IfErr read (λ fault. self.new ≡ self.old)) }
         ensures err { OnErr result (self.new ≡ self.old) }
     {
@@ -173,21 +175,21 @@ impl Assembly {
     fn grow(
         &mut self,
         partial: Partial,
-        payload: &[u8],
+        payload: ByteText,
     ) -> Result<Result<Step, ContentFault>, Memory>
-        ensures taken { IfOk result (λ read. IfOk read (Adds partial payload.now self.new)) }
-        ensures refused { IfOk result (λ read. IfErr read (IsTooMuch partial payload.now)) }
+        ensures taken { IfOk result (λ read. IfOk read (Adds partial payload self.new)) }
+        ensures refused { IfOk result (λ read. IfErr read (IsTooMuch partial payload)) }
         ensures kept { IfOk result (λ read.
             IfErr read (λ fault. self.new.stage ≡ stage.Taking partial)) }
         ensures err { OnErr result (self.new.stage ≡ stage.Taking partial) }
     {
         let mut partial = partial;
-        let count = payload.len() as u64;
+        let count = payload.as_slice().len() as u64;
         if count > partial.left {
             self.stage = Stage::Taking(partial);
             return Ok(Err(ContentFault::Overrun));
         }
-        if partial.content.body.append(payload).is_err() {
+        if add(&mut partial.content.body, payload).is_err() {
             self.stage = Stage::Taking(partial);
             return Err(Memory);
         }
@@ -199,4 +201,16 @@ impl Assembly {
         self.stage = Stage::Taking(partial);
         Ok(Ok(Step::More))
     }
+}
+
+/// Adds the bytes of a payload to a body, which becomes the payload where it has none.
+fn add(body: &mut ByteText, payload: ByteText) -> Result<(), Memory>
+    ensures ok { OnOk result (body.new ≡ body.old ++ payload) }
+    ensures err { OnErr result (body.new ≡ body.old) }
+{
+    if body.as_slice().is_empty() {
+        *body = payload;
+        return Ok(());
+    }
+    body.append(payload.as_slice())
 }

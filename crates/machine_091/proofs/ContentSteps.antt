@@ -13,15 +13,18 @@ use Rattle.methods_091.specs.Reading.{Read, method_in}
 use Rattle.methods_091.specs.declared.method.Method91.{Method91}
 use Rattle.machine_091.specs.Checked.{IsFirstOf, IsFedAt}
 use Rattle.machine_091.specs.Contents.{Taking, IsOfContent, is_immediate, taken}
-use Rattle.machine_091.specs.Refusals.{places, taken_by}
+use Rattle.machine_091.specs.Laws.{frame_of}
+use Rattle.machine_091.specs.Refusals.{places, taken_by, refusal_by}
 use Rattle.machine_091.specs.RefusalsContents.{awaited_order, fault_order, immediate_order}
 use Rattle.machine_091.specs.RefusalsContents.{publish_order}
 use Rattle.machine_091.specs.RefusalsFrames.{first, content_order, channel_order, closing_order}
 use Rattle.machine_091.specs.State.{is_running, content_at, with_content}
 use Rattle.machine_091.specs.Transitions.{content_effect, frame_effect, ruled_step, ordered_step}
+use Rattle.machine_091.specs.Transitions.{refused}
 use Rattle.machine_091.specs.declared.contents.Fed.TheVariants as fed
 use Rattle.machine_091.specs.declared.contents.Incoming.{Incoming}
 use Rattle.machine_091.specs.declared.state.Connection.{Connection}
+use Rattle.machine_091.specs.declared.unit.Refusal.{Refusal}
 use Rattle.machine_091.specs.declared.unit.Ruling.{Ruling}
 use Rattle.machine_091.specs.declared.unit.Ruling.TheVariants as ruling
 use Rattle.machine_091.specs.declared.unit.Unit91.{Unit91}
@@ -53,24 +56,43 @@ effect_is c n payload frame.Header of = refl
 effect_is c n payload frame.Body of = refl
 effect_is c n payload frame.Heartbeat of = absurd of
 
+-- ---- a ruling on a frame of a content
+
+-- the frame without its payload
+abbrev pub hollow : Frame91 → Unit91
+hollow f = unit.Frame (frame_of f.kind f.channel [])
+
+-- a ruling doesn't tell of the payload
+pub hollow_is : (c : Connection) (f : Frame91) (r : Ruling) → IsOfContent f.kind → ruled_step c (hollow f) (Some r) ≡ ruled_step c (unit.Frame f) (Some r)
+hollow_is c f ruling.PassedOver of = refl
+hollow_is c f (ruling.Refused code) of =
+    ap (λ (x : Refusal). (refused c (unit.Frame f) code, want.Refuse x)) (no_ids f.kind of)
+  where
+    no_ids : (k : Kind91) → IsOfContent k → refusal_by k code [] ≡ refusal_by k code f.payload
+    no_ids frame.Method of = absurd of
+    no_ids frame.Header of = refl
+    no_ids frame.Body of = refl
+    no_ids frame.Heartbeat of = absurd of
+hollow_is c f (ruling.MethodRefused code) of = refl
+hollow_is c f (ruling.ChannelRefused code) of = refl
+
 -- a step whose ruling is known
-step_is : (c : Connection) (u : Unit91) (f : Frame91) (o : Option Ruling) → u ≡ unit.Frame f → first (places c f (method_in f.payload) f.kind) ≡ o
-    → ordered_step c u ≡ ruled_step c u o
-step_is c u f o is first_is =
-    ap (ordered_step c) is ∙ ap (ruled_step c (unit.Frame f)) first_is ∙ ap (λ (v : Unit91). ruled_step c v o) (sym is)
+step_is : (c : Connection) (f : Frame91) (o : Option Ruling) → first (places c f (method_in f.payload) f.kind) ≡ o
+    → ordered_step c (unit.Frame f) ≡ ruled_step c (unit.Frame f) o
+step_is c f o first_is = ap (ruled_step c (unit.Frame f)) first_is
 
 -- the places before apply
-pub ruled_is : (c : Connection) (u : Unit91) (f : Frame91) (r : Ruling) → u ≡ unit.Frame f → IsOfContent f.kind
-    → IsFirstOf (content_places c f) (Some r) → ordered_step c u ≡ ruled_step c u (Some r)
-ruled_is c u f r is of ruled =
-    step_is c u f (Some r) is (order_is c f (method_in f.payload) f.kind of ∙ ruled (taking_places (content_at c f.channel) (taken_by c f f.kind)))
+pub ruled_is : (c : Connection) (f : Frame91) (r : Ruling) → IsOfContent f.kind → IsFirstOf (content_places c f) (Some r)
+    → ordered_step c (unit.Frame f) ≡ ruled_step c (hollow f) (Some r)
+ruled_is c f r of ruled =
+    step_is c f (Some r) (order_is c f (method_in f.payload) f.kind of ∙ ruled (taking_places (content_at c f.channel) (taken_by c f f.kind)))
+    ∙ sym (hollow_is c f r of)
 
 -- they don't: what was made of the content decides
-taking_is : (c : Connection) (u : Unit91) (f : Frame91) (o : Option Incoming) (t : Taking) → u ≡ unit.Frame f → IsOfContent f.kind
-    → IsFirstOf (content_places c f) None → content_at c f.channel ≡ o → taken_by c f f.kind ≡ t
-    → ordered_step c u ≡ ruled_step c u (first (taking_places o t))
-taking_is c u f o t is of none at taking =
-    step_is c u f (first (taking_places o t)) is
+taking_is : (c : Connection) (f : Frame91) (o : Option Incoming) (t : Taking) → IsOfContent f.kind → IsFirstOf (content_places c f) None
+    → content_at c f.channel ≡ o → taken_by c f f.kind ≡ t → ordered_step c (unit.Frame f) ≡ ruled_step c (unit.Frame f) (first (taking_places o t))
+taking_is c f o t of none at taking =
+    step_is c f (first (taking_places o t))
     (order_is c f (method_in f.payload) f.kind of ∙ none (taking_places (content_at c f.channel) (taken_by c f f.kind))
     ∙ ap (λ (p : Option Incoming). first (taking_places p (taken_by c f f.kind))) at
     ∙ ap (λ (s : Taking). first (taking_places o s)) taking)
@@ -83,28 +105,29 @@ fault_first o (fault.Header e) = refl
 fault_first o fault.TooLarge = refl
 fault_first o fault.Overrun = refl
 
-pub refused_is : (c : Connection) (u : Unit91) (f : Frame91) (x : ContentFault) (r : Ruling) → u ≡ unit.Frame f → IsOfContent f.kind
-    → IsFirstOf (content_places c f) None → taken_by c f f.kind ≡ Err x → Some r ≡ first (awaited_order (Err x) ∷ fault_order (Err x) ∷ [])
-    → ordered_step c u ≡ ruled_step c u (Some r)
-refused_is c u f x r is of none taking rules =
-    taking_is c u f (content_at c f.channel) (Err x) is of none refl taking
-    ∙ ap (ruled_step c u) (fault_first (content_at c f.channel) x ∙ sym rules)
+pub refused_is : (c : Connection) (f : Frame91) (x : ContentFault) (r : Ruling) → IsOfContent f.kind → IsFirstOf (content_places c f) None
+    → taken_by c f f.kind ≡ Err x → Some r ≡ first (awaited_order (Err x) ∷ fault_order (Err x) ∷ [])
+    → ordered_step c (unit.Frame f) ≡ ruled_step c (hollow f) (Some r)
+refused_is c f x r of none taking rules =
+    taking_is c f (content_at c f.channel) (Err x) of none refl taking
+    ∙ ap (ruled_step c (unit.Frame f)) (fault_first (content_at c f.channel) x ∙ sym rules)
+    ∙ sym (hollow_is c f r of)
 
 -- ---- a frame that is taken
 
 -- what it does, once its ruling is none
-effect_of : (c : Connection) (u : Unit91) (f : Frame91) (o : Option Incoming) (t : Taking) → u ≡ unit.Frame f → IsOfContent f.kind
-    → content_at c f.channel ≡ o → taken_by c f f.kind ≡ t → ruled_step c u None ≡ content_effect c f.channel o t
-effect_of c u f o t is of at taking =
-    ap (λ (v : Unit91). ruled_step c v None) is ∙ effect_is c f.channel f.payload f.kind of
+effect_of : (c : Connection) (f : Frame91) (o : Option Incoming) (t : Taking) → IsOfContent f.kind → content_at c f.channel ≡ o → taken_by c f f.kind ≡ t
+    → ruled_step c (unit.Frame f) None ≡ content_effect c f.channel o t
+effect_of c f o t of at taking =
+    effect_is c f.channel f.payload f.kind of
     ∙ ap (λ (p : Option Incoming). content_effect c f.channel p (taken_by c f f.kind)) at
     ∙ ap (content_effect c f.channel o) taking
 
-pub more_is : (c after : Connection) (u : Unit91) (f : Frame91) → u ≡ unit.Frame f → IsOfContent f.kind → IsFirstOf (content_places c f) None
-    → IsFedAt c after f fed.More → ordered_step c u ≡ (after, want.Nothing)
-more_is c after u f is of none (o, (i, a, at, slot, taking), same) =
-    taking_is c u f (Some i) (Ok (a, step.More)) is of none at taking
-    ∙ effect_of c u f (Some i) (Ok (a, step.More)) is of at taking
+pub more_is : (c after : Connection) (f : Frame91) → IsOfContent f.kind → IsFirstOf (content_places c f) None → IsFedAt c after f fed.More
+    → ordered_step c (unit.Frame f) ≡ (after, want.Nothing)
+more_is c after f of none (o, (i, a, at, slot, taking), same) =
+    taking_is c f (Some i) (Ok (a, step.More)) of none at taking
+    ∙ effect_of c f (Some i) (Ok (a, step.More)) of at taking
     ∙ ap (λ (p : Option Incoming). (with_content c f.channel p, want.Nothing)) (sym slot)
     ∙ ap (λ (d : Connection). (d, want.Nothing)) (sym same)
 
@@ -121,28 +144,29 @@ alone None = refl
 alone (Some r) = refl
 
 -- what is left of a content that was handed out is dropped with all others
-pub whole_refused : (c after : Connection) (u : Unit91) (f : Frame91) (m : Method91) (d : Content) (r : Ruling) → u ≡ unit.Frame f → IsOfContent f.kind
+pub whole_refused : (c after : Connection) (f : Frame91) (m : Method91) (d : Content) (r : Ruling) → IsOfContent f.kind
     → IsFirstOf (content_places c f) None → IsFedAt c after f (fed.Whole m d) → Some r ≡ immediate_order m
-    → ordered_step c u ≡ ruled_step after u (Some r)
-whole_refused c after u f m d r is of none (o, (i, a, at, slot, method, taking), same) rules =
-    taking_is c u f (Some i) (Ok (a, step.Whole d)) is of none at taking
-    ∙ ap (ruled_step c u) (alone (immediate_order i.method) ∙ ap immediate_order (sym method) ∙ sym rules)
+    → ordered_step c (unit.Frame f) ≡ ruled_step after (hollow f) (Some r)
+whole_refused c after f m d r of none (o, (i, a, at, slot, method, taking), same) rules =
+    taking_is c f (Some i) (Ok (a, step.Whole d)) of none at taking
+    ∙ ap (ruled_step c (unit.Frame f)) (alone (immediate_order i.method) ∙ ap immediate_order (sym method) ∙ sym rules)
     ∙ dropped r (immediate_is m r rules)
-    ∙ ap (λ (e : Connection). ruled_step e u (Some r)) (sym same)
+    ∙ ap (λ (e : Connection). ruled_step e (unit.Frame f) (Some r)) (sym same)
+    ∙ sym (hollow_is after f r of)
   where
-    dropped : (r : Ruling) → r ≡ ruling.MethodRefused NOT_IMPLEMENTED → ruled_step c u (Some r) ≡ ruled_step (with_content c f.channel o) u (Some r)
+    dropped : (r : Ruling) → r ≡ ruling.MethodRefused NOT_IMPLEMENTED
+        → ruled_step c (unit.Frame f) (Some r) ≡ ruled_step (with_content c f.channel o) (unit.Frame f) (Some r)
     dropped (ruling.MethodRefused code) e = refl
     dropped (ruling.Refused code) e = absurd cc
     dropped (ruling.ChannelRefused code) e = absurd cc
     dropped ruling.PassedOver e = absurd cc
 
-pub whole_is : (c after : Connection) (u : Unit91) (f : Frame91) (m : Method91) (d : Content) → u ≡ unit.Frame f → IsOfContent f.kind
-    → IsFirstOf (content_places c f) None → IsFedAt c after f (fed.Whole m d) → None ≡ immediate_order m
-    → ordered_step c u ≡ (after, want.Publish f.channel m d)
-whole_is c after u f m d is of none (o, (i, a, at, slot, method, taking), same) rules =
-    taking_is c u f (Some i) (Ok (a, step.Whole d)) is of none at taking
-    ∙ ap (ruled_step c u) (alone (immediate_order i.method) ∙ ap immediate_order (sym method) ∙ sym rules)
-    ∙ effect_of c u f (Some i) (Ok (a, step.Whole d)) is of at taking
+pub whole_is : (c after : Connection) (f : Frame91) (m : Method91) (d : Content) → IsOfContent f.kind → IsFirstOf (content_places c f) None
+    → IsFedAt c after f (fed.Whole m d) → None ≡ immediate_order m → ordered_step c (unit.Frame f) ≡ (after, want.Publish f.channel m d)
+whole_is c after f m d of none (o, (i, a, at, slot, method, taking), same) rules =
+    taking_is c f (Some i) (Ok (a, step.Whole d)) of none at taking
+    ∙ ap (ruled_step c (unit.Frame f)) (alone (immediate_order i.method) ∙ ap immediate_order (sym method) ∙ sym rules)
+    ∙ effect_of c f (Some i) (Ok (a, step.Whole d)) of at taking
     ∙ ap (λ (p : Option Incoming). (with_content c f.channel p, want.Publish f.channel i.method d)) (sym slot)
     ∙ ap (λ (e : Connection). (e, want.Publish f.channel i.method d)) (sym same)
     ∙ ap (λ (x : Method91). (after, want.Publish f.channel x d)) (sym method)

@@ -65,7 +65,7 @@ impl Conn91 {
         ensures err { OnErr result (self.new ≡ self.old) }
     {
         unit.tell_bytes();
-        self.state.take(alloc, &unit)
+        self.state.take(alloc, unit)
     }
 
     /// The container upstream opened, and takes channels up to this number. If the client asked for

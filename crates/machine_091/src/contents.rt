@@ -1,7 +1,9 @@
 //! The contents in progress of a connection (AMQP 0-9-1 4.2.6): at most one a channel, from the
 //! method that begins it until it is whole.
 
-ghost use Rattle.std.specs.Prelude.{◌≡◌, is_some, None, Some, Ok, Err, IfOk, IfErr, OnErr};
+ghost use Rattle.std.specs.Prelude.{◌≡◌, is_some, true, None, Some, Ok, Err, IfOk, IfErr, OnErr};
+ghost use Rattle.content_091.specs.Assembling.{is_open};
+ghost use Rattle.frames_091.specs.declared.frame.Kind91.TheVariants as frame;
 ghost use Rattle.machine_091.specs.Contents.{begun, is_immediate, taken, IsFed};
 
 use content_091::{Assembly, Content, ContentFault, Step};
@@ -9,7 +11,7 @@ use frames_091::Kind91;
 use methods_091::Method91;
 use std::alloc::Global;
 use std::marker::Model;
-use wire_base::Memory;
+use wire_base::{ByteText, Memory};
 
 /// A content in progress.
 #[derive(Debug, Drop)]
@@ -65,12 +67,12 @@ impl Incoming {
         &mut self,
         alloc: Global,
         kind: Kind91,
-        payload: &[u8],
+        payload: ByteText,
     ) -> Result<Result<Step, ContentFault>, Memory>
         ensures method { self.new.method ≡ self.old.method }
-        ensures taken { IfOk result (λ read. IfOk read (λ s. taken kind payload.now
+        ensures taken { IfOk result (λ read. IfOk read (λ s. taken kind payload
             (Some self.old) ≡ Ok (self.new.assembly, s))) }
-        ensures refused { IfOk result (λ read. IfErr read (λ fault. taken kind payload.now
+        ensures refused { IfOk result (λ read. IfErr read (λ fault. taken kind payload
             (Some self.old) ≡ Err fault)) }
         ensures kept { IfOk result (λ read. IfErr read (λ fault. self.new ≡ self.old)) }
         ensures err { OnErr result (self.new ≡ self.old) }
@@ -79,10 +81,28 @@ impl Incoming {
             return Ok(Err(ContentFault::Unexpected));
         }
         match kind {
-            Kind91::Header => self.assembly.header(alloc, payload),
+            Kind91::Header => self.take_header(alloc, payload.as_slice()),
             Kind91::Body => self.assembly.body(payload),
             Kind91::Method | Kind91::Heartbeat => Ok(Err(ContentFault::Unexpected)),
         }
+    }
+
+    /// Takes a content header.
+    fn take_header(
+        &mut self,
+        alloc: Global,
+        payload: &[u8],
+    ) -> Result<Result<Step, ContentFault>, Memory>
+        requires { is_open self.old.assembly ≡ true }
+        ensures method { self.new.method ≡ self.old.method }
+        ensures taken { IfOk result (λ read. IfOk read (λ s. taken frame.Header payload.now
+            (Some self.old) ≡ Ok (self.new.assembly, s))) }
+        ensures refused { IfOk result (λ read. IfErr read (λ fault. taken frame.Header payload.now
+            (Some self.old) ≡ Err fault)) }
+        ensures kept { IfOk result (λ read. IfErr read (λ fault. self.new ≡ self.old)) }
+        ensures err { OnErr result (self.new ≡ self.old) }
+    {
+        self.assembly.header(alloc, payload)
     }
 }
 
@@ -123,12 +143,12 @@ impl ContentSlot {
         &mut self,
         alloc: Global,
         kind: Kind91,
-        payload: &[u8],
+        payload: ByteText,
     ) -> Result<Result<Fed, ContentFault>, Memory>
         ensures taken { IfOk result (λ read. IfOk read (IsFed self.old self.new
-            (taken kind payload.now self.old))) }
+            (taken kind payload self.old))) }
         ensures refused { IfOk result (λ read. IfErr read
-            (λ fault. taken kind payload.now self.old ≡ Err fault)) }
+            (λ fault. taken kind payload self.old ≡ Err fault)) }
         ensures kept { IfOk result (λ read. IfErr read (λ fault. self.new ≡ self.old)) }
         ensures err { OnErr result (self.new ≡ self.old) }
     {

@@ -199,11 +199,11 @@ impl Connection {
     pub(crate) fn feed(
         &mut self,
         alloc: Global,
-        frame: &Frame91,
+        frame: Frame91,
     ) -> Result<Result<Fed, ContentFault>, Memory>
-        ensures taken { IfOk result (λ read. IfOk read (IsFedAt self.old self.new frame.now)) }
+        ensures taken { IfOk result (λ read. IfOk read (IsFedAt self.old self.new frame)) }
         ensures refused { IfOk result (λ read.
-            IfErr read (λ fault. taken_by self.old frame.now frame.now.kind ≡ Err fault)) }
+            IfErr read (λ fault. taken_by self.old frame frame.kind ≡ Err fault)) }
         ensures kept { IfOk result (λ read. IfErr read (λ fault. self.new ≡ self.old)) }
         ensures err { OnErr result (self.new ≡ self.old) }
     {
@@ -211,7 +211,7 @@ impl Connection {
         if at >= self.contents.len() {
             return Ok(Err(ContentFault::Unexpected));
         }
-        self.contents[at].take(alloc, frame.kind, frame.payload.as_slice())
+        self.contents[at].take(alloc, frame.kind, frame.payload)
     }
 
     /// What is awaited of the client's bytes.

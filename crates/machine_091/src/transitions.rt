@@ -1,13 +1,15 @@
 //! The transitions of a connection: for each phase and unit the state after it and what the unit
 //! wants, and what the other calls change. No other file sets a phase, a stream or a channel.
 
-ghost use Rattle.std.specs.Prelude.{◌≡◌, true, None, Some, Ok, IfOk, OnOk, OnErr};
+ghost use Rattle.std.specs.Prelude.{◌≡◌, true, [], None, Some, Ok, IfOk, OnOk, OnErr};
+ghost use Rattle.frames_091.specs.declared.frame.Kind91.TheVariants as kind;
 ghost use Rattle.methods_091.specs.View.{kind_of, args_of, parts_of};
 ghost use Rattle.machine_091.specs.Calls.{after_opened, after_closing, after_told, after_closed};
 ghost use Rattle.machine_091.specs.Calls.{after_ended};
 ghost use Rattle.machine_091.specs.Checked.{IsCounted};
 ghost use Rattle.machine_091.specs.Contents.{IsOfContent};
 ghost use Rattle.machine_091.specs.Ids.{is_of_kind};
+ghost use Rattle.machine_091.specs.Laws.{frame_of};
 ghost use Rattle.machine_091.specs.Limits.{agreed_limits};
 ghost use Rattle.machine_091.specs.Methods.{text_at, number_at};
 ghost use Rattle.machine_091.specs.RefusalsOpening.{is_expected};
@@ -35,7 +37,7 @@ use close_translate::{FRAME_ERROR, NOT_ALLOWED, Scope};
 use frames_091::{Frame91, Kind91};
 use methods_091::{Method91, read_method};
 use std::alloc::Global;
-use wire_base::Memory;
+use wire_base::{ByteText, Memory};
 
 /// What the client's bytes are after a unit.
 fn stream_after(unit: &Unit91, stream: Stream91) -> Stream91
@@ -96,18 +98,18 @@ impl Connection {
     // ---- the calls
 
     /// Takes a unit.
-    pub(crate) fn take(&mut self, alloc: Global, unit: &Unit91) -> Result<Want91, Memory>
-        ensures state { OnOk result (self.new ≡ (unit_step self.old unit.now).0) }
-        ensures want { IfOk result (λ want. want ≡ (unit_step self.old unit.now).1) }
+    pub(crate) fn take(&mut self, alloc: Global, unit: Unit91) -> Result<Want91, Memory>
+        ensures state { OnOk result (self.new ≡ (unit_step self.old unit).0) }
+        ensures want { IfOk result (λ want. want ≡ (unit_step self.old unit).1) }
         ensures err { OnErr result (self.new ≡ self.old) }
     {
         match self.phase {
-            Phase91::Header => Ok(self.take_header(unit)),
+            Phase91::Header => Ok(self.take_header(&unit)),
             Phase91::Start | Phase91::Tune | Phase91::Open | Phase91::Running => {
                 self.take_ordered(alloc, unit)
             }
-            Phase91::Closing => self.take_closing(alloc, unit),
-            Phase91::Closed => self.take_closed(alloc, unit),
+            Phase91::Closing => self.take_closing(alloc, &unit),
+            Phase91::Closed => self.take_closed(alloc, &unit),
         }
     }
 
@@ -192,53 +194,83 @@ impl Connection {
     // ---- before the connection runs, and once it does
 
     /// A unit by the order of refusals.
-    fn take_ordered(&mut self, alloc: Global, unit: &Unit91) -> Result<Want91, Memory>
-        ensures state { OnOk result (self.new ≡ (ordered_step self.old unit.now).0) }
-        ensures want { IfOk result (λ want. want ≡ (ordered_step self.old unit.now).1) }
+    fn take_ordered(&mut self, alloc: Global, unit: Unit91) -> Result<Want91, Memory>
+        ensures state { OnOk result (self.new ≡ (ordered_step self.old unit).0) }
+        ensures want { IfOk result (λ want. want ≡ (ordered_step self.old unit).1) }
         ensures err { OnErr result (self.new ≡ self.old) }
     {
-        let frame = match unit {
-            Unit91::Protocol => return Ok(self.rule(Ruling::Refused(FRAME_ERROR), unit)),
-            Unit91::Bad(code) => return Ok(self.rule(Ruling::Refused(*code), unit)),
-            Unit91::Frame(frame) => frame,
-        };
-        match frame.kind {
-            Kind91::Heartbeat => match heartbeat_order(frame) {
-                Some(ruling) => Ok(self.rule(ruling, unit)),
-                None => Ok(Want91::Nothing),
-            },
-            Kind91::Header | Kind91::Body => self.take_content(alloc, frame, unit),
-            Kind91::Method => match check_method(alloc, self, frame)? {
-                Err(ruling) => Ok(self.rule(ruling, unit)),
-                Ok(method) => self.apply(alloc, frame.channel, method),
+        match unit {
+            Unit91::Protocol => Ok(self.rule(Ruling::Refused(FRAME_ERROR), &Unit91::Protocol)),
+            Unit91::Bad(code) => Ok(self.rule(Ruling::Refused(code), &Unit91::Bad(code))),
+            Unit91::Frame(frame) => match frame.kind {
+                Kind91::Heartbeat => Ok(self.take_heartbeat(frame)),
+                Kind91::Header | Kind91::Body => self.take_content(alloc, frame),
+                Kind91::Method => self.take_method(alloc, frame),
             },
         }
     }
 
-    /// A content header or a body frame.
-    fn take_content(
-        &mut self,
-        alloc: Global,
-        frame: &Frame91,
-        unit: &Unit91,
-    ) -> Result<Want91, Memory>
-        requires kind { IsOfContent frame.now.kind }
-        requires unit { unit.now ≡ Frame frame.now }
-        ensures state { OnOk result (self.new ≡ (ordered_step self.old unit.now).0) }
-        ensures want { IfOk result (λ want. want ≡ (ordered_step self.old unit.now).1) }
+    /// A heartbeat.
+    fn take_heartbeat(&mut self, frame: Frame91) -> Want91
+        requires { frame.kind ≡ kind.Heartbeat }
+        ensures state { self.new ≡ (ordered_step self.old (Frame frame)).0 }
+        ensures want { result ≡ (ordered_step self.old (Frame frame)).1 }
+    {
+        match heartbeat_order(&frame) {
+            Some(ruling) => self.rule(ruling, &Unit91::Frame(frame)),
+            None => Want91::Nothing,
+        }
+    }
+
+    /// A method.
+    fn take_method(&mut self, alloc: Global, frame: Frame91) -> Result<Want91, Memory>
+        requires { frame.kind ≡ kind.Method }
+        ensures state { OnOk result (self.new ≡ (ordered_step self.old (Frame frame)).0) }
+        ensures want { IfOk result (λ want. want ≡ (ordered_step self.old (Frame frame)).1) }
         ensures err { OnErr result (self.new ≡ self.old) }
     {
-        if let Some(ruling) = content_place(self, frame.channel) {
-            return Ok(self.rule(ruling, unit));
+        match check_method(alloc, self, &frame)? {
+            Err(ruling) => Ok(self.rule(ruling, &Unit91::Frame(frame))),
+            Ok(method) => self.apply(alloc, frame.channel, method),
+        }
+    }
+
+    /// A content header or a body frame, whose payload may become the body of the content.
+    fn take_content(&mut self, alloc: Global, frame: Frame91) -> Result<Want91, Memory>
+        requires { IsOfContent frame.kind }
+        ensures state { OnOk result (self.new ≡ (ordered_step self.old (Frame frame)).0) }
+        ensures want { IfOk result (λ want. want ≡ (ordered_step self.old (Frame frame)).1) }
+        ensures err { OnErr result (self.new ≡ self.old) }
+    {
+        let Frame91 { kind, channel, .. } = frame;
+        if let Some(ruling) = content_place(self, channel) {
+            return Ok(self.rule_content(alloc, ruling, kind, channel));
         }
         match self.feed(alloc, frame)? {
-            Err(fault) => Ok(self.rule(fault_ruling(fault), unit)),
+            Err(fault) => Ok(self.rule_content(alloc, fault_ruling(fault), kind, channel)),
             Ok(Fed::More) => Ok(Want91::Nothing),
             Ok(Fed::Whole(method, content)) => match immediate_order(&method) {
-                Some(ruling) => Ok(self.rule(ruling, unit)),
-                None => Ok(Want91::Publish(frame.channel, method, content)),
+                Some(ruling) => Ok(self.rule_content(alloc, ruling, kind, channel)),
+                None => Ok(Want91::Publish(channel, method, content)),
             },
         }
+    }
+
+    /// What the order of refusals says of a content header or a body frame, whatever its payload
+    /// was.
+    fn rule_content(&mut self, alloc: Global, ruling: Ruling, kind: Kind91, channel: u16) -> Want91
+        ensures state { self.new
+            ≡ (ruled_step self.old (Frame (frame_of kind channel [])) (Some ruling)).0 }
+        ensures want { result
+            ≡ (ruled_step self.old (Frame (frame_of kind channel [])) (Some ruling)).1 }
+    {
+        let payload = ByteText::empty(alloc);
+        let unit = Unit91::Frame(Frame91 {
+            kind,
+            channel,
+            payload,
+        });
+        self.rule(ruling, &unit)
     }
 
     /// What the order of refusals says of a unit.

@@ -156,14 +156,14 @@ fn put_frame(
     out: &mut Printed,
     assembly: &mut Assembly,
     kind: &str,
-    bytes: &[u8],
+    bytes: ByteText,
 ) -> bool {
     if !assembly.is_open() {
         out.put("no content");
         return true;
     }
     match kind {
-        "header" => put_given(out, assembly.header(alloc, bytes)),
+        "header" => put_given(out, assembly.header(alloc, bytes.as_slice())),
         "body" => put_given(out, assembly.body(bytes)),
         _ => return false,
     }
@@ -180,11 +180,7 @@ fn put_told(
 ) -> bool {
     let (kind, rest) = words.split_once(' ').unwrap_or((words, ""));
     match out.find(names.joined(alloc, rest)) {
-        Some(bytes) => {
-            let is_case = put_frame(alloc, out, assembly, kind, bytes.as_slice());
-            drop(bytes);
-            is_case
-        }
+        Some(bytes) => put_frame(alloc, out, assembly, kind, bytes),
         None => false,
     }
 }
