@@ -2,7 +2,7 @@
 """Tries edits that turn the meaning of a crate's functions, each by the functions that it turns: all must be refused.
 
     python3 tools/try_edits.py [--plants | --must-fail] [--edit NAME].. [--jobs N] [--seconds N] [--apart]
-                               [--proved] [--answers FILE] [--kept FOLDER] CRATE..
+                               [--proved | --built] [--answers FILE] [--kept FOLDER] CRATE..
     python3 tools/try_edits.py [..] --listed FILE
 
 The edits are tools/plants/CRATE/*.edit and crates/CRATE/must-fail/*.edit, or those of one of both folders, or those of
@@ -18,7 +18,8 @@ crate is checked.
 These functions are checked without the edit first, over the same kept work. Edits of the bodies of different functions
 are tried in one check, since a proof reads the contracts of what it calls, and not their bodies; under --apart each is
 tried alone. So is each that such a check didn't refuse. Under --proved nothing is checked without the edits: the crates
-were proved just before, as by `rt ci`, and what their checks kept isn't asked for. A line comes for each edit:
+were proved just before, and what their checks kept isn't asked for. --built is that behind `rt ci`, whose libraries in
+out/rlib no other command takes: `rt` itself is asked how it checks over them. A line comes for each edit:
 
     refused     one of these functions isn't proved with the edit, and is proved without it
     PROVED      they are all proved with it, and so is the whole crate: a contract says too little
@@ -31,11 +32,14 @@ sources isn't tried again, and each new answer is added. --kept names a folder f
 was checked without edits, for a run that goes on.
 
 The status is 0 where every edit is refused, 1 where one isn't, and 2 where a crate has none of those that are asked for.
-Where it is 1, the last line names the folder with what the prover said.
+Where it is 1, the last line names the folder with what the prover said. Under --built it is 3 where this `rt` can't be
+asked, and nothing was tried.
 """
 
 import argparse
 import hashlib
+import importlib.machinery
+import importlib.util
 import os
 import queue
 import re
@@ -296,11 +300,40 @@ def ended(ran, out, limit):
         time.sleep(0.2)
 
 
+class Built:
+    """How `rt ci` checks a crate over the libraries that it built."""
+
+    def __init__(self):
+        where = os.path.realpath(shutil.which("rt") or "rt")
+        sys.path.insert(0, os.path.dirname(where))
+        loader = importlib.machinery.SourceFileLoader("rt_of_the_kit", where)
+        kit = importlib.util.module_from_spec(importlib.util.spec_from_loader(loader.name, loader))
+        loader.exec_module(kit)
+        self.lib = kit.rtlib
+        self.lib.guarded()
+        self.crates = {it.name: it for it in self.lib.crates_below(str(TOP))}
+
+    def command(self, crate, only):
+        words = self.crates[crate].words(["--jobs", "1", *only], keeps=False)
+        return [*self.lib.guarded(), self.lib.RATTLE, "check", *words]
+
+
+def built_by_rt():
+    """How `rt ci` checks, or nothing where this `rt` can't be asked."""
+    try:
+        found = Built()
+        found.command(next(iter(found.crates)), [])
+        return found
+    except (Exception, SystemExit) as error:
+        print(f"this rt can't be asked how it checks over its libraries: {error!r}", file=sys.stderr)
+        return None
+
+
 class Trial:
     """The trials of one crate's edits, on copies in a folder."""
 
     def __init__(self, crate, below, folder, given):
-        self.crate, self.below, self.folder, self.given = crate, below, folder, given
+        self.crate, self.below, self.folder, self.given = crate, [] if given.built else below, folder, given
         self.sum = sum_of([*below, crate])
         self.seconds, self.answered = 0.0, {}
         self.running, self.lock = set(), threading.Lock()
@@ -340,7 +373,9 @@ class Trial:
         with tempfile.TemporaryFile("w+", errors="replace") as out:
             how = {"stdin": subprocess.DEVNULL, "stdout": out, "stderr": subprocess.STDOUT}
             folder = room / "crates" / self.crate
-            ran = subprocess.Popen(["rt", "check", "--jobs", str(jobs), *only], cwd=folder, **how)
+            built = self.given.built
+            words = built.command(self.crate, only) if built else ["rt", "check", "--jobs", str(jobs), *only]
+            ran = subprocess.Popen(words, cwd=folder, **how)
             self.running.add(ran)
             seconds, was_cut = ended(ran, out, limit)
             self.running.discard(ran)
@@ -573,6 +608,7 @@ def options():
     parser.add_argument("--seconds", type=int, default=3600)
     parser.add_argument("--apart", action="store_true")
     parser.add_argument("--proved", action="store_true")
+    parser.add_argument("--built", action="store_true")
     parser.add_argument("--answers")
     parser.add_argument("--kept", type=Path)
     parser.add_argument("--listed", type=listed_in)
@@ -590,10 +626,16 @@ def lacking(given, crate, known):
     return crate not in known or len(edits_in(given, crate)) < max(1, wanted)
 
 
-def try_crate(crate, below, folder, given):
+def ended_by_signal(trials):
+    for it in trials:
+        for ran in it.running:
+            ran.kill()
+    os._exit(143)
+
+
+def try_crate(trial):
     """Tries a crate's edits, and counts its answers."""
-    trial = Trial(crate, below, folder, given)
-    signal.signal(signal.SIGTERM, lambda *_: ([it.kill() for it in trial.running], os._exit(143)))
+    crate, given = trial.crate, trial.given
     edits, known = [read_edit(it, crate) for it in edits_in(given, crate)], answers_in(given.answers)
     left = []
     for edit in edits:
@@ -614,12 +656,22 @@ def try_crate(crate, below, folder, given):
 
 def main():
     given, known = options(), crates_of(TOP)
+    given.proved = given.proved or given.built
+    given.built = built_by_rt() if given.built else None
+    if given.built is None and "--built" in sys.argv:
+        return 3
     for crate in given.crates:
         if lacking(given, crate, known):
             print(f"{crate} has no such edit", file=sys.stderr)
             return 2
     folder = given.kept or Path(tempfile.mkdtemp(prefix="try-edits-"))
-    well = [try_crate(crate, known[crate], folder, given) for crate in given.crates]
+    # Over built libraries a crate has few checks, so crates go side by side, and not the checks of one.
+    at_a_time = given.jobs if given.built else 1
+    given.jobs = 1 if given.built else given.jobs
+    with ThreadPoolExecutor(at_a_time) as pool:
+        signal.signal(signal.SIGTERM, lambda *_: ended_by_signal(trials))
+        trials = [Trial(crate, known[crate], folder, given) for crate in given.crates]
+        well = list(pool.map(try_crate, trials))
     if not all(well):
         print(f"what the prover said: {folder / 'said'}")
     for crate in given.crates if not given.kept else []:
