@@ -47,9 +47,9 @@ const LAST_TURNS: u32 = 10_000;
 ///
 /// A call on an end asks the system only where it may do something: `now` learns what is ready, and
 /// `idle` waits for it, for 10 ms at most. What a write takes is buffered, 65,536 bytes an end, and
-/// goes out at the next `now`, `idle` or `shut`, or when the buffer is full; what the outbox holds
-/// goes out at `now` and `idle`. An end that was shut is kept aside until its bytes are sent, for
-/// 1,000 ms at most.
+/// goes out at the next `now`, `idle` or `shut`, or when the buffer is full. 32,768 bytes and more
+/// in one write go past it where nothing waits. What the outbox holds goes out at `now` and `idle`.
+/// An end that was shut is kept aside until its bytes are sent, for 1,000 ms at most.
 #[derive(Drop)]
 pub struct RealPorts<'a, R: Net + Clock + Eprint, W: Write> {
     runtime: &'a R,
