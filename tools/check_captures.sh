@@ -3,12 +3,12 @@
 #
 #     tools/check_captures.sh FOLDER [LISTER]
 #
-# It uses crates/tests_capture/out/tests_capture: `rt run` in crates/tests_capture makes it. With a LISTER, a program that
+# It uses crates/tests_turns/out/tests_turns: `rt run` in crates/tests_turns makes it. With a LISTER, a program that
 # prints a capture's listing (its first line and the bytes behind two blanks don't count), the listings are compared too.
 # The last line has the counts; the status is 0 where every capture is the same.
 set -u
 cd "$(dirname "$0")/.." || exit 2
-program=crates/tests_capture/out/tests_capture
+program=crates/tests_turns/out/tests_turns
 if [ $# -lt 1 ] || [ ! -x "$program" ]; then
     echo "usage: tools/check_captures.sh FOLDER [LISTER], once $program is built" >&2
     exit 2

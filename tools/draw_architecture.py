@@ -80,7 +80,7 @@ def stands_on():
 
 
 def is_tests(name):
-    return name.startswith("tests_") or name.endswith("_tests")
+    return name.startswith("tests_")
 
 
 def above(crates, changed):

@@ -1,7 +1,7 @@
 #!/usr/bin/env python3
-"""Writes the cases of crates/tests_mapping: its input, and the lines that must be printed for it.
+"""Writes the cases of the mapping in crates/tests_10: their input, and the lines that must be printed for it.
 
-    python3 tools/make_mapping_cases.py            writes stdin and stdout
+    python3 tools/make_mapping_cases.py            writes them into stdin and stdout
     python3 tools/make_mapping_cases.py --check    compares them with those of the crate
 
 The expected lines are worked out here and not by the program: messages are built from values of this script, spelled by its
@@ -16,8 +16,9 @@ import sys
 import uuid
 from pathlib import Path
 
+from case_parts import put_part
+
 TOOLS = Path(__file__).resolve().parent
-CRATE = TOOLS.parent / "crates" / "tests_mapping"
 ROOM = 131064
 
 # ---- AMQP 0-9-1: fields are pairs of a type byte and a value; a table is a list of names and fields
@@ -881,14 +882,9 @@ def main():
     peers()
     by_hand()
     captured()
-    wanted = {"stdin": "\n".join(STDIN) + "\n", "stdout": "\n".join(STDOUT) + "\n"}
-    if "--check" in sys.argv[1:]:
-        differ = [name for name, lines in wanted.items() if (CRATE / name).read_text() != lines]
-        print("differ: " + ", ".join(differ) if differ else "%d lines agree" % len(STDIN))
-        sys.exit(1 if differ else 0)
-    for name, lines in wanted.items():
-        (CRATE / name).write_text(lines)
-    print("%d lines" % len(STDIN))
+    differ = put_part("tests_10", "the mapping", {"stdin": STDIN, "stdout": STDOUT})
+    print("differ: " + ", ".join(differ) if differ else "%d lines" % len(STDIN))
+    sys.exit(1 if differ else 0)
 
 
 if __name__ == "__main__":

@@ -1,8 +1,8 @@
 #!/usr/bin/env python3
-"""Writes the cases of crates/tests_performatives: its input, and the lines that must be printed for it.
+"""Writes the cases of performatives in crates/tests_10: their input, and the lines that must be printed for it.
 
     apt-get install amqp-specs
-    python3 tools/make_performative_cases.py            writes stdin and stdout
+    python3 tools/make_performative_cases.py            writes them into stdin and stdout
     python3 tools/make_performative_cases.py --check    compares them with those of the crate
 
 The expected lines are worked out here and not by the program: the rows come from the published definition, which
@@ -11,11 +11,10 @@ peers stand here as they were seen. This is no part of the build.
 """
 
 import sys
-from pathlib import Path
 
+from case_parts import put_part
 from generate_performatives import MODULES, camel, composites, snake
 
-CRATE = Path(__file__).resolve().parent.parent / "crates" / "tests_performatives"
 TYPES = composites()
 KINDS = sorted((name for names in MODULES.values() for name in names), key=lambda name: TYPES[name][0])
 STATES = ["received", "accepted", "rejected", "released", "modified"]
@@ -786,14 +785,8 @@ def main():
     headers(cases)
     peers(cases)
     files = {"stdin": cases.asked, "stdout": cases.told}
-    differing = 0
-    for name, lines in files.items():
-        path, body = CRATE / name, "\n".join(lines) + "\n"
-        if "--check" in sys.argv:
-            differing += path.read_text() != body
-        else:
-            path.write_text(body)
-    print(f"{len(cases.asked)} lines, {differing} files differing")
+    differing = put_part("tests_10", "performatives", files)
+    print(f"{len(cases.asked)} lines, {len(differing)} files differing")
     return 1 if differing else 0
 
 

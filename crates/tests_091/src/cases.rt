@@ -3,6 +3,7 @@
 use crate::closes::{code_text, condition_text, error_text};
 use crate::contents::{content_text, frames_text};
 use crate::frames::{frame_text, header_text};
+use crate::listings::listing_text;
 use crate::machine::{Made, connection_text};
 use crate::methods::{Close, answer_text, close_ok_text, close_text, method_text};
 use crate::numbers::{changed_text, reader_text};
@@ -224,6 +225,7 @@ fn other_text(
         "kinds" => kinds_text(alloc),
         "code" | "error" => coded_text(alloc, verb, words),
         "condition" => condition_text(alloc, names, words),
+        "091" | "10" | "cuts-091" | "cuts-10" => listing_text(alloc, verb, words),
         _ => numbered_text(alloc, names, verb, words),
     }
 }

@@ -1,4 +1,4 @@
-//! Cases of AMQP 0-9-1: reads them line by line, and prints what the codecs answer.
+//! Cases of AMQP 0-9-1, and of listings of both protocols: reads them line by line, and prints what the codecs answer.
 //!
 //! | Line | Answer |
 //! |---|---|
@@ -28,12 +28,21 @@
 //!
 //! Behind what was read stands what is written of it: `=` the same bytes. A fault is its name and its place. Bytes are digits,
 //! texts and names with commas between them.
+//!
+//! Of listings, whose bytes are digits and texts, and whose faults are their place and their name:
+//!
+//! | Line | Answer |
+//! |---|---|
+//! | `091 BYTES` | the listing of a stream of AMQP 0-9-1, a line for each unit, and how it ended |
+//! | `10 BYTES` | the same of AMQP 1.0 |
+//! | `cuts-091 BYTES`, `cuts-10 BYTES` | the lengths at which a shorter input is whole units; every other one is told if it isn't `Cut` at its length |
 #![tactic(auto)]
 
 mod cases;
 mod closes;
 mod contents;
 mod frames;
+mod listings;
 mod machine;
 mod methods;
 mod numbers;

@@ -1,30 +1,28 @@
 //! Values that are built from words, one behind another with commas between them. A word pushes a
-//! value: `null`, `uint 5`,
-//! `string "a"`, `float 3E 00 00 00`. Or it makes one of the last ones: `list 2`, `map 1` (pairs),
-//! `array 2`, `described`,
-//! `times 4` (it so many times). A number that is told wrongly is the greatest one, and a value
-//! that is wanting is null.
+//! value: `null`, `uint 5`, `string "a"`, `float 3E 00 00 00`. Or it makes one of the last ones:
+//! `list 2`, `map 1` (pairs), `array 2`, `described`, `times 4` (it so many times). A value that is
+//! wanting is null.
 
 use std::alloc::Global;
 use tests_support::bytes_of;
 use types_10::{Inner, PairList, Value10, ValueList};
 use wire_base::{ByteText, Memory};
 
-/// Numbers and truths.
+/// Numbers and truths; `None` also where a number is told wrongly.
 fn number_of(word: &str, text: &str) -> Option<Value10> {
     match word {
         "null" => Some(Value10::Null),
         "true" => Some(Value10::Boolean(true)),
         "false" => Some(Value10::Boolean(false)),
-        "ubyte" => Some(Value10::Ubyte(text.parse().unwrap_or(u8::MAX))),
-        "ushort" => Some(Value10::Ushort(text.parse().unwrap_or(u16::MAX))),
-        "uint" => Some(Value10::Uint(text.parse().unwrap_or(u32::MAX))),
-        "ulong" => Some(Value10::Ulong(text.parse().unwrap_or(u64::MAX))),
-        "byte" => Some(Value10::Byte(text.parse().unwrap_or(i8::MAX))),
-        "short" => Some(Value10::Short(text.parse().unwrap_or(i16::MAX))),
-        "int" => Some(Value10::Int(text.parse().unwrap_or(i32::MAX))),
-        "long" => Some(Value10::Long(text.parse().unwrap_or(i64::MAX))),
-        "timestamp" => Some(Value10::Timestamp(text.parse().unwrap_or(i64::MAX))),
+        "ubyte" => Some(Value10::Ubyte(text.parse().ok()?)),
+        "ushort" => Some(Value10::Ushort(text.parse().ok()?)),
+        "uint" => Some(Value10::Uint(text.parse().ok()?)),
+        "ulong" => Some(Value10::Ulong(text.parse().ok()?)),
+        "byte" => Some(Value10::Byte(text.parse().ok()?)),
+        "short" => Some(Value10::Short(text.parse().ok()?)),
+        "int" => Some(Value10::Int(text.parse().ok()?)),
+        "long" => Some(Value10::Long(text.parse().ok()?)),
+        "timestamp" => Some(Value10::Timestamp(text.parse().ok()?)),
         _ => None,
     }
 }
@@ -128,13 +126,12 @@ fn value_of(
     word: &str,
     text: &str,
 ) -> Result<Option<Value10>, Memory> {
-    let count = text.parse().unwrap_or(0);
-    let value = match word {
-        "described" => described(alloc, stack)?,
-        "list" => Value10::List(last_values(alloc, stack, count)?),
-        "array" => Value10::Array(last_values(alloc, stack, count)?),
-        "map" => Value10::Map(last_pairs(alloc, stack, count)?),
-        "times" => repeated(alloc, stack, count)?,
+    let value = match (word, text.parse()) {
+        ("described", _) => described(alloc, stack)?,
+        ("list", Ok(count)) => Value10::List(last_values(alloc, stack, count)?),
+        ("array", Ok(count)) => Value10::Array(last_values(alloc, stack, count)?),
+        ("map", Ok(count)) => Value10::Map(last_pairs(alloc, stack, count)?),
+        ("times", Ok(count)) => repeated(alloc, stack, count)?,
         _ => return scalar_of(alloc, word, text),
     };
     Ok(Some(value))

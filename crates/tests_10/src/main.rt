@@ -1,4 +1,13 @@
-//! Cases of AMQP 1.0: reads them line by line, and prints what `types_10` and `sections_10` answer.
+//! Cases of AMQP 1.0: reads them line by line, and prints what the codecs and `property_map` answer.
+//! A line says what those behind it are about, and is printed as it is:
+//!
+//! | Line | Behind it stand cases of | Listed in |
+//! |---|---|---|
+//! | `cases of values` | values and messages, as at first | this file |
+//! | `cases of performatives` | performatives, frames and protocol headers | `performatives.rt` |
+//! | `cases of the mapping` | messages of each protocol in the other | `mapping.rt` |
+//!
+//! Of values and messages, by `types_10` and `sections_10`:
 //!
 //! | Line | Answer |
 //! |---|---|
@@ -16,11 +25,15 @@
 
 mod building;
 mod cases;
+mod mapping;
 mod messages;
 mod notation;
+mod parts;
+mod performatives;
 mod values;
 
 use cases::Cases10;
+use property_map::map_laws;
 use sections_10::message_laws;
 use std::io;
 use tests_support::answer_lines;
@@ -29,5 +42,6 @@ use types_10::value_laws;
 fn main(rt: HostRuntime) -> io::Result<()> {
     value_laws();
     message_laws();
-    answer_lines(&rt, &mut Cases10)
+    map_laws();
+    answer_lines(&rt, &mut Cases10::Values)
 }

@@ -1,6 +1,7 @@
 //! Cases of messages.
 
 use crate::notation::put_notation;
+use crate::parts::{put_number, put_text};
 use sections_10::{
     Body10, Message10, MsgHeader, MsgProps, can_be_written, put_message, read_message,
 };
@@ -10,23 +11,7 @@ use types_10::Value10;
 use wire_base::{ByteText, Memory};
 
 /// What stands before each message that is written.
-const BEFORE: &[u8] = b"before";
-
-/// A text that is there.
-fn put_text(out: &mut Printed, name: &str, text: &Option<ByteText>) {
-    if let Some(text) = text {
-        out.put(name);
-        out.debug(text);
-    }
-}
-
-/// A number that is there.
-fn put_number(out: &mut Printed, name: &str, n: Option<i64>) {
-    if let Some(n) = n {
-        out.put(name);
-        out.show(n);
-    }
-}
+pub const BEFORE: &[u8] = b"before";
 
 /// A value that is there.
 fn put_value(alloc: Global, out: &mut Printed, name: &str, value: &Option<Value10>, end: &str) {
@@ -40,12 +25,9 @@ fn put_value(alloc: Global, out: &mut Printed, name: &str, value: &Option<Value1
 /// The fields of a header.
 fn put_header(out: &mut Printed, header: &MsgHeader) {
     out.put("header");
-    if let Some(durable) = header.durable {
-        out.put(" durable ");
-        out.show(durable);
-    }
-    put_number(out, " priority ", header.priority.map(i64::from));
-    put_number(out, " ttl ", header.ttl.map(i64::from));
+    put_number(out, " durable ", header.durable);
+    put_number(out, " priority ", header.priority);
+    put_number(out, " ttl ", header.ttl);
     out.put(" first-acquirer ");
     out.show(header.first_acquirer);
     out.put(" delivery-count ");
@@ -67,7 +49,7 @@ fn put_properties(alloc: Global, out: &mut Printed, props: &MsgProps) {
     put_number(out, " absolute-expiry-time ", props.absolute_expiry_time);
     put_number(out, " creation-time ", props.creation_time);
     put_text(out, " group-id ", &props.group_id);
-    put_number(out, " group-sequence ", props.group_sequence.map(i64::from));
+    put_number(out, " group-sequence ", props.group_sequence);
     put_text(out, " reply-to-group-id ", &props.reply_to_group_id);
     out.put(" | ");
 }
@@ -102,7 +84,7 @@ fn put_seen(alloc: Global, out: &mut Printed, message: &Message10) {
 }
 
 /// The bytes that are written of a message, behind others; `None` where it can't be written.
-fn written(alloc: Global, message: &Message10) -> Result<Option<ByteText>, Memory> {
+pub fn written(alloc: Global, message: &Message10) -> Result<Option<ByteText>, Memory> {
     if !can_be_written(alloc, message)? {
         return Ok(None);
     }

@@ -1,14 +1,13 @@
 //! Cases of values: what is printed of a line.
 
 use crate::building::built;
+use crate::messages::BEFORE;
 use crate::notation::put_notation;
+use crate::parts::put_cut;
 use std::alloc::Global;
 use tests_support::{Printed, bytes_of, part};
 use types_10::{TypeFault, Value10, has_spelling, put_value, read_value, skip_value};
 use wire_base::{At, ByteText, Memory};
-
-/// What stands before each value that is written.
-const BEFORE: &[u8] = b"before";
 
 /// What `skip_value` answers, where that isn't what `read_value` does.
 fn put_skipped(
@@ -98,32 +97,12 @@ fn put_answer(alloc: Global, out: &mut Printed, bytes: &[u8], from: usize) {
     }
 }
 
-/// Whether an answer is that the bytes are cut off at a length.
-fn is_cut_at(answer: &str, count: usize) -> bool {
-    match answer.strip_prefix("Cut ") {
-        Some(at) => at.parse().unwrap_or(usize::MAX) == count,
-        None => false,
-    }
-}
-
-/// The answer at a shorter length, unless it is that the bytes are cut off there.
-fn put_cut(alloc: Global, out: &mut Printed, bytes: &[u8], count: usize) {
-    let Some(found) = out.take(text_at(alloc, part(bytes, 0, count), 0, 0)) else {
-        return;
-    };
-    if !is_cut_at(found.as_str(), count) {
-        out.put(", at ");
-        out.show(count);
-        out.put(": ");
-        out.put(found.as_str());
-    }
-}
-
 /// Each shorter length: those that aren't cut off at their length are told.
 fn put_cuts(alloc: Global, out: &mut Printed, bytes: &[u8]) {
     out.put(" | cuts");
     for count in 0..bytes.len() {
-        put_cut(alloc, out, bytes, count);
+        let found = text_at(alloc, part(bytes, 0, count), 0, 0);
+        put_cut(out, count, found, "Cut ", "");
     }
 }
 
@@ -197,23 +176,19 @@ fn put_plain(alloc: Global, out: &mut Printed, verb: &str, rest: &str) -> bool {
     true
 }
 
-/// A case from an offset; whether it is one.
-fn put_at(alloc: Global, out: &mut Printed, offset: &str, rest: &str) -> bool {
+/// A case with a number before its bytes: from an offset, or inside so many lists; whether it is
+/// one.
+fn put_numbered(alloc: Global, out: &mut Printed, verb: &str, rest: &str) -> bool {
+    let (number, rest) = rest.split_once(' ').unwrap_or((rest, ""));
+    let Ok(number) = number.parse::<usize>() else {
+        return false;
+    };
     let Some(bytes) = out.find(bytes_of(alloc, rest)) else {
         return false;
     };
-    let offset = offset.parse().unwrap_or(usize::MAX);
-    put_answer(alloc, out, bytes.as_slice(), offset);
-    true
-}
-
-/// A case inside so many lists; whether it is one.
-fn put_in_lists(alloc: Global, out: &mut Printed, count: &str, rest: &str) -> bool {
-    let Some(bytes) = out.find(bytes_of(alloc, rest)) else {
-        return false;
-    };
-    let count = count.parse().unwrap_or(0usize);
-    if let Some(bytes) = out.take(in_lists(alloc, bytes.as_slice(), count)) {
+    if verb == "at" {
+        put_answer(alloc, out, bytes.as_slice(), number);
+    } else if let Some(bytes) = out.take(in_lists(alloc, bytes.as_slice(), number)) {
         put_answer(alloc, out, bytes.as_slice(), 0);
     }
     true
@@ -231,16 +206,14 @@ fn put_built(alloc: Global, out: &mut Printed, words: &str) -> bool {
 }
 
 /// A case of values; whether it is one.
-pub fn put_line(alloc: Global, out: &mut Printed, line: &str) -> bool {
+pub fn put_value_line(alloc: Global, out: &mut Printed, line: &str) -> bool {
     let (verb, rest) = line.split_once(' ').unwrap_or((line, ""));
-    let (number, further) = rest.split_once(' ').unwrap_or((rest, ""));
     match verb {
         "codes" => {
             put_codes(alloc, out);
             true
         }
-        "at" => put_at(alloc, out, number, further),
-        "lists" => put_in_lists(alloc, out, number, further),
+        "at" | "lists" => put_numbered(alloc, out, verb, rest),
         "write" => put_built(alloc, out, rest),
         _ => put_plain(alloc, out, verb, rest),
     }

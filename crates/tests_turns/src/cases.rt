@@ -1,6 +1,9 @@
 //! The lines of the input.
 
+use crate::capture::put_capture_line;
 use crate::checks::{put_unrecorded, put_unreported};
+use crate::edge::put_edge_line;
+use crate::outside::put_outside_line;
 use crate::runs::{play, play_as_told};
 use crate::scenario::{Numbers, Scenario, Sent};
 use crate::telling::{put_counts, put_listing};
@@ -9,7 +12,7 @@ use std::alloc::Global;
 use tests_support::{Cases, Printed, bytes_of};
 use wire_base::Memory;
 
-/// The scenario that the next play ends.
+/// The scenario that the next play ends. No other line prepares another.
 #[derive(Drop)]
 pub struct TurnCases {
     scenario: Scenario,
@@ -183,6 +186,13 @@ fn play_line(out: &mut Printed, alloc: Global, scenario: &Scenario, line: &str) 
     true
 }
 
+/// A case that is no scenario; whether it is one.
+fn put_other_line(out: &mut Printed, alloc: Global, line: &str) -> bool {
+    put_outside_line(out, alloc, line)
+        || put_edge_line(out, alloc, line)
+        || put_capture_line(out, alloc, line)
+}
+
 impl Cases for TurnCases {
     fn answer(&mut self, alloc: Global, line: &str) -> Result<Option<String>, Memory> {
         let mut out = Printed::new(alloc);
@@ -190,7 +200,8 @@ impl Cases for TurnCases {
             self.scenario = Scenario::new(alloc);
             return out.end_if(true);
         }
-        let is_case = take_line(&mut out, alloc, &mut self.scenario, line);
+        let is_case = take_line(&mut out, alloc, &mut self.scenario, line)
+            || put_other_line(&mut out, alloc, line);
         out.end_if(is_case)
     }
 }

@@ -1,6 +1,15 @@
-//! Cases of the loop with both ends: reads scenarios line by line, plays each over scripted ports,
-//! and prints the calls. The pairs are ferries (`ferry.rt`): what comes from one end is offered to
-//! the other, at most 8 bytes at once.
+//! Cases of the loop with both ends, and of what stands around it: reads lines, and prints what is
+//! answered. Each kind of line is listed where it is read:
+//!
+//! | Lines | Of | In |
+//! |---|---|---|
+//! | what both ends do, and plays | the loop, over scripted ports | this file |
+//! | `values`, `streams`, `script` and so on | ports, streams in memory, the log and numbers | `outside.rt` |
+//! | `source N THEN`, `pace` and so on | sources, sinks and ends over streams | `edge.rt` |
+//! | `read BYTES`, `cuts BYTES`, `list BYTES` | captures | `capture.rt` |
+//!
+//! A scenario is played over scripted ports, and the calls are printed. The pairs are ferries
+//! (`ferry.rt`): what comes from one end is offered to the other, at most 8 bytes at once.
 //!
 //! | Line | Meaning |
 //! |---|---|
@@ -30,18 +39,25 @@
 //! | `unrecorded` | the recorder fails at each call in turn: the same |
 #![tactic(auto)]
 
+mod answers;
+mod capture;
 mod cases;
 mod checks;
+mod edge;
 mod ferry;
 mod note;
+mod outside;
 mod runs;
 mod scenario;
 mod telling;
 
 use cases::TurnCases;
+use gate_capture::{capture_laws, replay_laws};
 use std::io;
 use tests_support::answer_lines;
 
 fn main(rt: HostRuntime) -> io::Result<()> {
+    capture_laws();
+    replay_laws();
     answer_lines(&rt, &mut TurnCases::new(rt.alloc()))
 }

@@ -38,7 +38,7 @@ pub struct Run {
 }
 
 /// The calls of a sink that fail: one, or none.
-fn faults(alloc: Global, fault: Option<u64>) -> Result<CallList, Memory> {
+pub fn fault_list(alloc: Global, fault: Option<u64>) -> Result<CallList, Memory> {
     let mut list = ItemList::empty(alloc);
     if let Some(call) = fault {
         list.push(call)?;
@@ -140,7 +140,7 @@ pub fn play_with(
     out: Option<u64>,
     room: usize,
 ) -> Result<Run, Memory> {
-    let fails = faults(alloc, out)?;
+    let fails = fault_list(alloc, out)?;
     let mut run = Run {
         served: Served::Memory,
         out_of_memory: 0,

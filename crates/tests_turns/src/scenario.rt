@@ -109,16 +109,23 @@ fn fill(alloc: Global, scenario: &Scenario, script: &mut Script) -> Result<(), M
     add_rooms(scenario, script)
 }
 
-/// The script of a scenario.
-pub fn script_of(alloc: Global, scenario: &Scenario) -> Result<Script, Memory> {
-    let mut script = Script {
-        pairs: scenario.numbers.pairs,
+/// A script with so many pairs and nothing else.
+pub fn quiet(alloc: Global, pairs: u32) -> Script {
+    Script {
+        pairs,
         pieces: ItemList::empty(alloc),
         rooms: ItemList::empty(alloc),
         fails: ItemList::empty(alloc),
-        idles: scenario.numbers.idles,
-        step: scenario.numbers.step,
-    };
+        idles: 0,
+        step: 1,
+    }
+}
+
+/// The script of a scenario.
+pub fn script_of(alloc: Global, scenario: &Scenario) -> Result<Script, Memory> {
+    let mut script = quiet(alloc, scenario.numbers.pairs);
+    script.idles = scenario.numbers.idles;
+    script.step = scenario.numbers.step;
     match fill(alloc, scenario, &mut script) {
         Ok(()) => Ok(script),
         Err(memory) => {
