@@ -22,7 +22,7 @@ const HEAD: usize = 7;
 const HEADER_SIZE: usize = 8;
 
 /// The bytes of a stream that are no frame yet. Contracts see the list of them. The payload of a
-/// frame that comes in parts grows where it stays, so that each byte of it is copied once.
+/// frame that comes in parts grows where it stays, and is moved into its frame.
 #[derive(Debug, Drop)]
 pub struct Unread91 {
     /// Those before a payload, or as many of them as there are.

@@ -4,7 +4,7 @@
 //! - Listing: `list_units`.
 //! - The names of faults: `fault_text`.
 //!
-//! Cases stand in the crate `tests_listing`.
+//! Cases stand in the crate `tests_091`.
 #![tactic(auto)]
 
 mod fault;

@@ -7,7 +7,7 @@
 //! - The names of error conditions: `condition_name`.
 //! - Laws: `perf_laws`.
 //!
-//! Cases stand in the crate `tests_performatives`.
+//! Cases stand in the crate `tests_10`.
 #![tactic(auto)]
 
 mod closing;

@@ -17,7 +17,7 @@ pub struct Names {
     all: Vec<Named>,
 }
 
-/// The first of these that has a name.
+/// The bytes of the first of these with this name.
 fn bytes_named<'a>(all: &'a [Named], name: &str) -> Option<&'a [u8]> {
     for named in all {
         if named.name.as_str() == name {

@@ -10,6 +10,7 @@
 //! | `reads N THEN` | an end is read three times |
 //! | `sends N THEN` | an end takes `four`, sends once, and takes `go`; what was left between |
 //! | `overfills N THEN` | an end with room for four bytes takes six, and then two |
+//! | `passes N THEN` | an end with room for eight bytes takes `four`, and then 40,000; how many wait |
 //! | `reports N THEN` | the report takes N lines of 1,024 bytes: how many, the last, and whether all goes |
 //! | `parts N THEN` | an end that takes four bytes is shut at 5: whether that is over at N |
 //! | `reads when told` | an end is read before and after the system says that it may be |
@@ -27,7 +28,7 @@ mod streams;
 
 use crate::answers::tell;
 use late::{Late, Then};
-use links::{overfill, part, read_thrice, read_when_told, send_four};
+use links::{overfill, part, pass, read_thrice, read_when_told, send_four};
 use open::{find_ends, find_room, paces};
 use std::alloc::Global;
 use streams::{draw, report, sink_four};
@@ -57,6 +58,7 @@ fn put_streamed(out: &mut Printed, alloc: Global, verb: &str, number: u32, then:
         "reads" => tell(out, read_thrice(alloc, late)),
         "sends" => tell(out, send_four(alloc, late)),
         "overfills" => tell(out, overfill(alloc, late)),
+        "passes" => tell(out, pass(alloc, late)),
         "reports" => tell(out, report(alloc, number, then)),
         "parts" => tell(out, part(alloc, then, u64::from(number))),
         _ => return false,

@@ -89,6 +89,17 @@ pub fn overfill(alloc: Global, late: Late) -> Result<(Put, Put), Memory> {
     Ok(took)
 }
 
+/// What a write of four bytes is answered where eight have room, and one of so many that they go
+/// past the buffer; how many wait then.
+pub fn pass(alloc: Global, late: Late) -> Result<(Put, Put, usize), Memory> {
+    let many = vec![in alloc; 7; 40_000]?;
+    let mut out = Outgoing::new(late, Unsent::new(alloc, 8)?);
+    let took = (out.write(b"four"), out.write(&many));
+    let waits = out.unsent.bytes.len();
+    drop(out);
+    Ok((took.0, took.1, waits))
+}
+
 /// Whether an end that was shut is over at a moment, once some of what waits was sent.
 fn is_over(parting: &mut Parting<Late>, moment: u64) -> bool {
     parting.link.out.flush();
