@@ -48,7 +48,8 @@ impl<W: Write> Outgoing<W> {
 
     /// Takes bytes into the buffer, as many as fit. Where it is full, it is sent first. So it is
     /// before 32,768 bytes and more, which go past it where nothing waits there then and the writer
-    /// takes some.
+    /// takes some. While the system hasn't said that it is ready, bytes of any number go into the
+    /// buffer.
     pub fn write(&mut self, bytes: &[u8]) -> Put
         requires some { 0 < length bytes.now }
         ensures taken { TakesSome result (length bytes.now) }
@@ -56,6 +57,10 @@ impl<W: Write> Outgoing<W> {
             → length self.new.unsent.bytes.items ≡ self.new.unsent.room }
         ensures failed { result ≡ Put.Failed ↔ self.new.failed ≡ true }
         ensures takes { self.old.failed ≡ false → length bytes.now < LONG
+            → length self.old.unsent.bytes.items < self.old.unsent.room
+            → result ≡ Put.Took (min (length bytes.now)
+            (self.old.unsent.room - length self.old.unsent.bytes.items)) }
+        ensures unready { self.old.failed ≡ false → self.old.ready ≡ false
             → length self.old.unsent.bytes.items < self.old.unsent.room
             → result ≡ Put.Took (min (length bytes.now)
             (self.old.unsent.room - length self.old.unsent.bytes.items)) }
@@ -105,6 +110,10 @@ impl<W: Write> Outgoing<W> {
         ensures full { result ≡ Put.NotYet
             → length self.new.unsent.bytes.items ≡ self.new.unsent.room }
         ensures failed { result ≡ Put.Failed ↔ self.new.failed ≡ true }
+        ensures unready { self.old.failed ≡ false → self.old.ready ≡ false
+            → length self.old.unsent.bytes.items < self.old.unsent.room
+            → result ≡ Put.Took (min (length bytes.now)
+            (self.old.unsent.room - length self.old.unsent.bytes.items)) }
         ensures order { self.new.failed ≡ false → SameInAll
             (W.contents self.old.writer) (self.old.unsent.bytes.items ++ put_bytes result bytes.now)
             (W.contents self.new.writer) self.new.unsent.bytes.items }
@@ -123,6 +132,7 @@ impl<W: Write> Outgoing<W> {
         ensures taken { TakesSome result (length bytes.now) }
         ensures failed { result ≡ Put.Failed ↔ self.new.failed ≡ true }
         ensures still { self.old.failed ≡ true → result ≡ Put.Failed }
+        ensures unready { self.old.failed ≡ false → self.old.ready ≡ false → result ≡ Put.NotYet }
         ensures unsent { self.new.unsent ≡ self.old.unsent }
         ensures order { self.new.failed ≡ false → SameInAll
             (W.contents self.old.writer) (self.old.unsent.bytes.items ++ put_bytes result bytes.now)
