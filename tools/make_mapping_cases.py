@@ -1,8 +1,8 @@
 #!/usr/bin/env python3
-"""Writes the cases of the mapping in crates/tests_10: their input, and the lines that must be printed for it.
+"""Writes the cases of the mapping in tools/cases/amqp_10.txt, and the answers to them in amqp_10.answers.txt.
 
-    python3 tools/make_mapping_cases.py            writes them into stdin and stdout
-    python3 tools/make_mapping_cases.py --check    compares them with those of the crate
+    python3 tools/make_mapping_cases.py            writes them
+    python3 tools/make_mapping_cases.py --check    compares them with those that stand there
 
 The expected lines are worked out here and not by the program: messages are built from values of this script, spelled by its
 own code after AMQP 0-9-1 4.2.5 and AMQP 1.0 1.6 and 3.2, and mapped by its own tables. The messages of client libraries stand
@@ -882,7 +882,7 @@ def main():
     peers()
     by_hand()
     captured()
-    differ = put_part("tests_10", "the mapping", {"stdin": STDIN, "stdout": STDOUT})
+    differ = put_part("amqp_10", "the mapping", STDIN, STDOUT)
     print("differ: " + ", ".join(differ) if differ else "%d lines" % len(STDIN))
     sys.exit(1 if differ else 0)
 

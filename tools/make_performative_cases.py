@@ -1,9 +1,9 @@
 #!/usr/bin/env python3
-"""Writes the cases of performatives in crates/tests_10: their input, and the lines that must be printed for it.
+"""Writes the cases of performatives in tools/cases/amqp_10.txt, and the answers to them in amqp_10.answers.txt.
 
     apt-get install amqp-specs
-    python3 tools/make_performative_cases.py            writes them into stdin and stdout
-    python3 tools/make_performative_cases.py --check    compares them with those of the crate
+    python3 tools/make_performative_cases.py            writes them
+    python3 tools/make_performative_cases.py --check    compares them with those that stand there
 
 The expected lines are worked out here and not by the program: the rows come from the published definition, which
 generate_performatives.py reads, and values are read and written by this script's own code after AMQP 1.0 1.6. Frames of
@@ -784,8 +784,7 @@ def main():
     frames(cases)
     headers(cases)
     peers(cases)
-    files = {"stdin": cases.asked, "stdout": cases.told}
-    differing = put_part("tests_10", "performatives", files)
+    differing = put_part("amqp_10", "performatives", cases.asked, cases.told)
     print(f"{len(cases.asked)} lines, {len(differing)} files differing")
     return 1 if differing else 0
 

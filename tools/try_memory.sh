@@ -3,12 +3,12 @@
 #
 #     tools/try_memory.sh [MEGABYTES]
 #
-# It uses crates/tests_10/out/tests_10: `rt run` in crates/tests_10 makes it. Each value has less than 64 KiB, the limit
-# is 256 megabytes of address space where none is given, and this is no part of the gate. The status is 0 where each
-# value is refused as it must be.
+# It uses crates/tests_codecs/out/tests_codecs: `rt run` in crates/tests_codecs makes it. Each value has less than 64 KiB,
+# the limit is 256 megabytes of address space where none is given, and this is no part of the gate. The status is 0 where
+# each value is refused as it must be.
 set -u
 cd "$(dirname "$0")/.." || exit 2
-program=crates/tests_10/out/tests_10
+program=crates/tests_codecs/out/tests_codecs
 if [ ! -x "$program" ]; then
     echo "usage: tools/try_memory.sh [MEGABYTES], once $program is built" >&2
     exit 2
@@ -30,9 +30,18 @@ cases() {
     echo "read F0 $(four $((4 + 6 + 30000 + 1 + 30000)))$(four 30000)00 B0 $(four 30000)61*30000 50 07*30000"
 }
 
-diff <(cases | sed 's/ *$//' | (ulimit -v $((megabytes * 1024)) && "$program")) - <<'END' && echo "refused within $megabytes megabytes"
-Count 9
-Count 19
-Count 0
-Count 0
+# the calls of these cases
+calls() {
+    python3 -c '
+import sys
+from cases.told_bytes import bytes_of
+for line in sys.stdin:
+    print("amqp_10 value", bytes_of(line.strip().removeprefix("read ")).hex().upper(), 0)'
+}
+
+diff <(cases | PYTHONPATH=tools calls | (ulimit -v $((megabytes * 1024)) && "$program")) - <<'END' && echo "refused within $megabytes megabytes"
+Ok(Err(At { fault: Count, at: 9 }))
+Ok(Err(At { fault: Count, at: 19 }))
+Ok(Err(At { fault: Count, at: 0 }))
+Ok(Err(At { fault: Count, at: 0 }))
 END

@@ -5,12 +5,12 @@
     python3 tools/try_out_of_memory.py --show NUMBER [--program FILE] [--pairs COUNT] WORD
 
 The program is that of tests_gate, as `rt run` or `rt ci` leaves it in crates/tests_gate/out. It calls the gateway over scripted
-ports, and prints its status, its report and its capture. A library that is put before it counts the calls of malloc and realloc. At
+ports, and prints its status, the ports' log, its report and its capture. A library that is put before it counts the calls of malloc and realloc. At
 each call it makes a copy of the process, in which that call fails, and another one in which the next call fails too. So every
 allocation of the gateway in a scenario fails once. The scenarios are
 
 - the captures of tools/captures: what their clients and containers sent, and how much their writes took, but not their times;
-- those of crates/tests_gate/stdin that play a run;
+- those of tools/cases/gateway.txt that play a run;
 - the replay of each capture, and the listings of it and of what came of each end.
 
 Those with one pair and no call that fails are also played with COUNT such pairs at once, 2 if nothing else is said. With words only those are tried whose
@@ -55,8 +55,13 @@ import tempfile
 import time
 from pathlib import Path
 
-CRATES = Path(__file__).resolve().parent.parent / "crates"
-CAPTURES = Path(__file__).resolve().parent / "captures"
+from cases.gate_command import told_called
+from cases.gate_runs import Gateway
+from cases.gateway import Cases
+
+TOOLS = Path(__file__).resolve().parent
+CRATES = TOOLS.parent / "crates"
+CAPTURES = TOOLS / "captures"
 CLIENT, UP = 0, 1
 ALL = 4_294_967_295
 
@@ -252,6 +257,26 @@ def entries_of(capture):
             yield ("idle", number(1)) if kind == 6 else ("now", number(8))
 
 
+def calls_of(lines):
+    """The lines for the program that lines of cases stand for, of which the last one calls the gateway."""
+    cases, calls = Cases(), []
+    for line in lines:
+        try:
+            calls += next(cases.answer(line))
+        except StopIteration:
+            pass
+    return "".join(f"gateway {call}\n" for call in calls).encode()
+
+
+def called(answer):
+    """The call of the gateway, which is what the program answers last."""
+    return Gateway(answer.decode().rstrip("\n").rpartition("\n")[2])
+
+
+# What the program answers to a line that prepares the call, where it ran out of memory.
+UNTOLD = b"Err(Memory)\n"
+
+
 class Reading:
     """A command of the gateway that reads its input."""
 
@@ -261,16 +286,17 @@ class Reading:
         self.words, self.given = words, given
 
     def text(self, _):
-        return f"input {digits(self.given)}\nreport 4000000\ngateway {self.words}\n".encode()
+        return calls_of([f"input {digits(self.given)}", "report 4000000", f"gateway {self.words}"])
 
     def judged(self, answer, ample):
         """What it said stands in front of what it says with ample memory, and a replay says nothing, or the same."""
+        answer, ample = told_called(answer), told_called(ample)
         if answer == ample and self.words == "replay":
             return "a replay that is the same, since no call changed"
-        status, _, said = answer.rstrip(b"\n").partition(b" / ")
-        _, _, whole = ample.partition(b" / ")
+        status, _, said = answer.partition(" / ")
+        _, _, whole = ample.partition(" / ")
         is_front = whole.startswith(said) and (not said or self.words != "replay")
-        is_so = status == b"status 5, 0 calls" and is_front
+        is_so = status == "status 5, 0 calls" and is_front
         return "status 5 of a command that reads" if is_so else f"WRONG: it says {answer[:80]!r}"
 
 
@@ -294,7 +320,7 @@ class Scenario:
         for copy in range(copies):
             lines += [f"{pair + copy * self.pairs} {deed}" for pair, deed in self.lines]
         words = ["serve", f"--pairs={pairs}", *self.words, "--capture=c"]
-        return "\n".join([*lines, "gateway " + "|".join(words), ""]).encode()
+        return calls_of([*lines, "gateway " + "|".join(words)])
 
 
 def digits(data):
@@ -389,16 +415,17 @@ def of_cases(cases):
 
 def scenarios(words):
     """All scenarios, by their names, each text once, and the shortest first."""
-    named = dict(of_cases((CRATES / "tests_gate" / "stdin").read_text()))
+    named = dict(of_cases((TOOLS / "cases" / "gateway.txt").read_text()))
     for path in sorted(CAPTURES.glob("*.agc")):
         may_be_meant = [f"{what} of {path.stem}" for what in ("replay", "show capture", "show 091", "show 10")]
         if any(word in name for word in words or [""] for name in may_be_meant):
             capture = path.read_bytes()
             named |= {path.stem: of_capture(capture), **readings(path.stem, capture)}
     found, texts = {}, set()
-    for name, scenario in named.items():
+    meant = {name: scenario for name, scenario in named.items() if any(word in name for word in words or [""])}
+    for name, scenario in meant.items():
         text = scenario and scenario.text(1)
-        if text and text not in texts and any(word in name for word in words or [""]):
+        if text and text not in texts:
             texts.add(text)
             found[name] = scenario
     return dict(sorted(found.items(), key=lambda named: (named[1].pairs, len(named[1].text(1)))))
@@ -410,12 +437,11 @@ def scenarios(words):
 class Play:
     """The status, the lines of the report, and the calls of each pair with their turns."""
 
-    def __init__(self, answer):
-        words, _, told = answer.decode().rstrip("\n").rpartition("status ")[2].partition(" / capture ")
-        self.status, *self.report = words.split(" / ")
-        self.capture = bytes.fromhex(re.sub(r"(\S\S)\*(\d+)", lambda found: found[1] * int(found[2]), told))
+    def __init__(self, call):
+        self.status = f"{call.number}, {call.call_count} calls"
+        self.report = call.report.decode().split("\n")[:-1]
         self.calls, turn = collections.defaultdict(list), 0
-        for kind, *rest in entries_of(self.capture):
+        for kind, *rest in entries_of(call.capture):
             turn += kind == "now"
             if kind in ("connect", "read", "write", "shut"):
                 self.calls[rest[0]].append((turn, kind, *rest[1:]))
@@ -978,12 +1004,12 @@ class Sweep:
         self.program, self.scenario, self.copies = program, scenario, copies
         self.text, self.known = scenario.text(copies), {}
         self.ample, status, words, _ = program.answer(self.text)
-        if status or not self.ample.startswith(b"status "):
+        if status or not self.ample:
             raise Wrong(f"the program ends with status {status}: {words[-200:]!r}")
 
     def outcome(self, answer):
         if answer not in self.known:
-            self.known[answer] = self.scenario.judged(answer, self.ample)
+            self.known[answer] = self.scenario.judged(called(answer), called(self.ample))
         return self.known[answer]
 
     def outcomes(self):
@@ -993,7 +1019,8 @@ class Sweep:
         start = self.program.answer(b"\n".join([*lines, b""]))[3]
         was_answered = is_behind = False
         for number, many, answer, status, words in self.program.answers(self.text, start, 2):
-            ran_out = status == 1 and b"OutOfMemory" in words and not answer
+            # (a line before the last one is answered so where there was no memory for what it tells)
+            ran_out = status == 1 and b"OutOfMemory" in words and not answer or UNTOLD in answer
             if status and not ran_out:
                 yield number, f"WRONG: the program ends with status {status}: {words[-200:]!r}"
             elif is_behind and not ran_out:
@@ -1011,7 +1038,7 @@ class Sweep:
 def shown(program, scenario, copies, number):
     """What came and went of each pair, from a little before its calls differ."""
     text = scenario.text(copies)
-    play, ample = Play(program.answer(text, f"{number} 1")[0]), Play(program.answer(text)[0])
+    play, ample = Play(called(program.answer(text, f"{number} 1")[0])), Play(called(program.answer(text)[0]))
     print(f"status {play.status}", *play.report, sep=" / ")
     print(f"ample: status {ample.status}", *ample.report, sep=" / ")
     for number in ample.calls:

@@ -1,0 +1,2 @@
+pub mod Ferries
+pub mod FerryWords

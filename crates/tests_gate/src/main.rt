@@ -1,63 +1,88 @@
-//! Cases of the gateway: reads scenarios line by line, plays each over scripted ports, and prints what each client and each
-//! container got.
+//! Makes calls of what is kept of a session, of the loop and what stands around it, and of the gateway. Each is told in a line,
+//! and what it returned is printed as a derived `Debug` prints it. `tools/run_cases.py` tells the calls of the cases in
+//! `tools/cases`.
 //!
-//! | Line | Meaning |
-//! |---|---|
-//! | `name N BYTES` | these bytes have a name from now on |
-//! | `P sends BYTES`, `P ends BYTES` | the client of pair P sends a piece, and ends after it |
-//! | `P after N BYTES` | it sends a piece once it took N bytes |
-//! | `P takes N N ..`, `P often K N N ..` | its next writes take at most so many bytes, K times over |
-//! | `P up sends BYTES`, and so on | the same of the container of pair P |
-//! | `setup W|W` | the words between bars, behind `serve`, say what the pairs share: the gateway's name, the hosts and the exchanges |
-//! | `pairs N`, `idles N`, `step N` | how many clients come (1), how often `idle` answers (9), the milliseconds of a turn (1) |
-//! | `limit N`, `turns N`, `report N` | the pairs asked for (1; 0 for no limit), the turns (20,000), the bytes that the report may have |
-//! | `log N` | the bytes that the log of the calls may have (1,048,576), from which the answer is told |
-//! | `fault N` | call N of the run fails |
-//! | `capture N`, `lost N` | the bytes that the capture may have, and the one of its writes that fails |
-//! | `input ..`, `unread N` | bytes of the input, and the one of its reads that fails |
+//! | First word | Calls | Told by |
+//! |---|---|---|
+//! | `paths` | links, handles, publishes and deliveries (`paths.rt`) | `tools/cases/paths.py` |
+//! | `turns` | the loop with both ends, ports, streams, the ends of pairs, and captures (`turns.rt`) | `tools/cases/turns.py` |
+//! | `gateway` | the gateway over scripted ports, and its command line (`gateway.rt`) | `tools/cases/gateway.py` |
 //!
-//! A line that plays ends the scenario:
-//!
-//! | Line | Answer |
-//! |---|---|
-//! | `play` | what each client got, each container (`up P`), and the report |
-//! | `times` | the same with the moment of each unit |
-//! | `ways` | also in one piece and byte by byte; what differs is printed |
-//! | `cuts`, `pieces` | cut at each place, and in each way into three pieces; what differs from the one before is printed |
-//! | `up ways`, `up cuts`, `up pieces` | the same of what the container of pair 0 sends |
-//! | `list` | each call with its answer, and the report |
-//! | `counts` | how many accepts were tried, and how many pairs lived at most |
-//! | `reads` | how many bytes were read of those that came byte by byte |
-//! | `fails` | each call fails in turn: the kinds of calls, the calls after whose fault a rule was broken, and each report of publishes and deliveries behind its calls |
-//! | `unreported` | the report fails at each of its writes, or has no room: the same |
-//! | `gateway W|W` | the words between bars are called: the status, how many calls were made, the report and the capture |
-//! | `again W|W` | the words between bars are called, and then `replay` over their capture |
-//! | `uncaptured W|W` | the same with a capture that fails at each of its writes, or has no room: what broke a rule |
-//!
-//! `words W|W` answers what the words ask for, or where they cease to be a command line, and `statuses` the number of each status.
-//! A word that begins with a quote is told in bytes.
-//!
-//! Bytes are digits, texts and names with commas between them. What is sent without waiting is what `ways`, `cuts` and
-//! `pieces` change.
+//! What a line of the last two tells before a call stands in `scripted.rt`.
 #![tactic(auto)]
 
-mod called;
-mod cases;
-mod checks;
-mod closes;
-mod command;
-mod plays;
-mod runs;
-mod scenario;
-mod telling;
+mod gateway;
+mod paths;
+mod scripted;
+mod turns;
 
-use cases::GateCases;
+use gate_capture::{capture_laws, replay_laws};
+use gateway::GateCalls;
+use paths::Paths;
+use scripted::{Scripted, Words, words_of};
+use std::alloc::Global;
 use std::io;
-use tests_support::answer_lines;
+use tests_support::{Answer, Calls, answer_lines, bytes_of, first_word};
+use turns::TurnCalls;
+
+/// The calls of each kind, and what they are made on.
+#[derive(Drop)]
+struct AllCalls {
+    paths: Paths,
+    scripted: Scripted,
+    turns: TurnCalls,
+    gateway: GateCalls,
+}
+
+impl AllCalls {
+    fn new(alloc: Global) -> AllCalls {
+        AllCalls {
+            paths: Paths::new(alloc),
+            scripted: Scripted::new(alloc),
+            turns: TurnCalls::new(),
+            gateway: GateCalls::new(alloc),
+        }
+    }
+
+    /// Makes a call that may be scripted.
+    fn call(&mut self, alloc: Global, kind: &str, words: Words, bytes: &[u8]) -> Answer {
+        if let Some(answer) = self.scripted.tell(alloc, words, bytes) {
+            return answer;
+        }
+        match kind {
+            "turns" => self.turns.call(alloc, &mut self.scripted, words, bytes),
+            _ => self.gateway.call(alloc, &mut self.scripted, words, bytes),
+        }
+    }
+
+    /// The same of a line.
+    fn call_line(&mut self, alloc: Global, kind: &str, line: &str) -> Answer {
+        let Some((words, digits)) = words_of(line) else {
+            return Ok(None);
+        };
+        let bytes = bytes_of(alloc, digits)?;
+        let answer = self.call(alloc, kind, words, bytes.as_slice());
+        drop(bytes);
+        answer
+    }
+}
+
+impl Calls for AllCalls {
+    fn answer(&mut self, alloc: Global, line: &str) -> Answer {
+        let (kind, call) = first_word(line);
+        match kind {
+            "paths" => self.paths.answer(alloc, call),
+            "turns" | "gateway" => self.call_line(alloc, kind, call),
+            _ => Ok(None),
+        }
+    }
+}
 
 fn main(rt: HostRuntime) -> io::Result<()> {
-    match GateCases::new(rt.alloc()) {
-        Ok(mut cases) => answer_lines(&rt, &mut cases),
-        Err(_) => Err(io::Error::from(io::ErrorKind::OutOfMemory)),
-    }
+    capture_laws();
+    replay_laws();
+    let mut calls = AllCalls::new(rt.alloc());
+    let done = answer_lines(&rt, &mut calls);
+    drop(calls);
+    done
 }

@@ -1,13 +1,9 @@
-//! What the programs share whose cases are lines: the loop over them, what is printed of one, and
-//! bytes as text.
+//! What the programs share that make calls, each told in a line: the loop over the lines, their
+//! words, and answers. `tools/run_cases.py` writes the lines and reads the answers.
 #![tactic(auto)]
 
-mod bytes;
 mod lines;
-mod names;
-mod printing;
+mod words;
 
-pub use bytes::{bytes_of, part, put_bytes, put_text};
-pub use lines::{Cases, answer_lines};
-pub use names::{Named, Names};
-pub use printing::Printed;
+pub use lines::{Answer, Calls, answer_lines};
+pub use words::{bytes_of, first_number, first_word, told};

@@ -1,2 +1,0 @@
-pub mod Ferries
-pub mod FerryWords

@@ -1,0 +1,64 @@
+"""Calls of the test program of AMQP 1.0, and what its answers tell."""
+
+import re
+
+from cases import debug
+from cases.told_bytes import NoCase, told_bytes
+
+READ = re.compile(r"Ok\(Ok\(\((?P<value>.*), (?P<after>\d+)\)\)\)", re.S)
+FAULT = re.compile(r"Err\(At \{ fault: (?P<fault>\w+), at: (?P<at>\d+) \}\)")
+WRITTEN = re.compile(r'\(Ok\(\(\)\), (?P<text>".*")\)', re.S)
+# What stands before a value and a message that is written.
+BEFORE = b"before"
+
+
+def digits(data):
+    """Bytes as a call has them."""
+    return data.hex().upper()
+
+
+def call(verb, data, number=None):
+    """The line of a call with bytes, and with a number where it has one."""
+    behind = "" if number is None else f" {number}"
+    return f"{verb} {digits(data)}{behind}"
+
+
+def read_of(answer):
+    """The text of a value that was read, and the offset behind it; None where a fault was told."""
+    found = READ.fullmatch(answer)
+    return (found["value"], int(found["after"])) if found else None
+
+
+def fault_of(answer):
+    """The fault and its place, of a call that must have told one."""
+    found = FAULT.search(answer)
+    if found is None:
+        raise ValueError(f"neither a value nor a fault: {answer[:200]}")
+    return found["fault"], int(found["at"])
+
+
+def written_of(answer, before=b""):
+    """The bytes that were written behind others; None where nothing can be."""
+    if answer == "false":
+        return None
+    found = WRITTEN.fullmatch(answer)
+    if found is None:
+        raise ValueError(f"nothing was written: {answer[:200]}")
+    data = debug.read(found["text"])
+    if not data.startswith(before):
+        raise ValueError(f"what stood before is written over: {answer[:200]}")
+    return data[len(before) :]
+
+
+def told_written(written, data):
+    """What is written of what these bytes spell: `=` the same, and `-` where nothing can be."""
+    if written is None:
+        return " | -"
+    return " | =" if written == data else f" |{told_bytes(written)}"
+
+
+def number_of(text, bits=64):
+    """A number of so many bits that a text tells."""
+    if not re.fullmatch("[0-9]+", text) or int(text) >= 1 << bits:
+        raise NoCase(text)
+    return int(text)

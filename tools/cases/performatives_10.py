@@ -1,0 +1,88 @@
+"""Cases of performatives."""
+
+import re
+
+from cases import debug
+from cases.calls_10 import call, number_of, read_of, told_written, written_of
+from cases.told_bytes import NoCase, bytes_of, told_bytes
+
+# How many fields are kept as they are spelled, of the performatives that have such.
+KEPT = {"Open": 5, "Begin": 3, "Attach": 11, "Flow": 1}
+SPELLED = re.compile(r'Spelling10\("(?:[^"\\]|\\.)*"\)')
+# What the room of a settlement is filled with before.
+FILLED = 0x5A
+ROOM = 512
+
+
+def calls_of(data):
+    """The calls that read and write the performative with which bytes begin."""
+    return [call("perf", data), call("perf-put", data)]
+
+
+def calls_of_kept(data, answer):
+    """The calls that read the values which a performative keeps as they are spelled."""
+    name = answer.removeprefix("Ok(Ok((").partition("(")[0]
+    return [call("kept", data, k) for k in range(KEPT.get(name, 0))]
+
+
+def with_kept(text, kept):
+    """A performative with the values that it keeps in place of their bytes."""
+    values = [answer.removeprefix("Ok(").removesuffix(")") for answer in kept if answer != "false"]
+    rest = iter(values)
+    if len(SPELLED.findall(text)) != len(values):
+        raise ValueError(f"not each value is read: {text[:200]}")
+    return SPELLED.sub(lambda _: next(rest), text)
+
+
+def answer_of(data, read, put, kept):
+    """The performative, the offset behind it and what is written of it, or the fault."""
+    found = read_of(read)
+    if found is None:
+        return read.removeprefix("Ok(Err(").removesuffix("))")
+    text, after = found
+    return f"{with_kept(text, kept)} | {after}{told_written(written_of(put), data[:after])}"
+
+
+def answers_of(texts):
+    """The answer for each of several bytes."""
+    answers = yield [line for data in texts for line in calls_of(data)]
+    pairs = [(answers[2 * k], answers[2 * k + 1]) for k in range(len(texts))]
+    lines = [calls_of_kept(data, read) for data, (read, _) in zip(texts, pairs)]
+    rest = iter((yield [line for some in lines for line in some]))
+    return [
+        answer_of(data, read, put, [next(rest) for _ in some])
+        for data, (read, put), some in zip(texts, pairs, lines)
+    ]
+
+
+def read(words):
+    (text,) = yield from answers_of([bytes_of(words)])
+    return text
+
+
+def cuts(words):
+    """Of each shorter length the answer, where it isn't cut off at its length."""
+    data = bytes_of(words)
+    *shorter, text = yield from answers_of([data[:count] for count in range(len(data) + 1)])
+    text += " | cuts"
+    for count, found in enumerate(shorter):
+        if found != f"Value(At {{ fault: Cut, at: {count} }})":
+            text += f", at {count}: {found}"
+    return text
+
+
+def settled(words):
+    """What settles as sender, and whether more of the room was written."""
+    numbers = words.split(" ")
+    if not 2 <= len(numbers) <= 3:
+        raise NoCase(words)
+    number_of(numbers[0], 16)
+    for number in numbers[1:]:
+        number_of(number, 32)
+    (answer,) = yield [f"settled {words}"]
+    size, room = debug.read(answer)
+    more = "" if room[size:] == [FILLED] * (ROOM - size) else " | more was written"
+    return f"{size} |{told_bytes(bytes(room[:size]))}{more}"
+
+
+VERBS = {"read": read, "cuts": cuts, "settled": settled}
