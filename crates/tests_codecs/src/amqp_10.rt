@@ -1,5 +1,5 @@
-//! Calls of the libraries of AMQP 1.0, each told in a line. The answer is what the call returned, as
-//! a derived `Debug` prints it. `tools/cases/tests_10.py` makes such lines of the cases.
+//! Calls of the libraries of AMQP 1.0, and of those that carry messages of each protocol into the
+//! other.
 //!
 //! BYTES are hexadecimal digits. N stands behind the bytes, and is 0 where it is left out.
 //!
