@@ -4,7 +4,7 @@
 //! - Listing: `list_units`.
 //! - The names of faults: `fault_text`.
 //!
-//! Cases stand in the crate `tests_091`.
+//! Cases stand in `tools/cases`.
 #![tactic(auto)]
 
 mod fault;

@@ -7,7 +7,7 @@
 //! - The names of error conditions: `condition_name`.
 //! - Laws: `perf_laws`.
 //!
-//! Cases stand in the crate `tests_10`.
+//! Cases stand in `tools/cases`.
 #![tactic(auto)]
 
 mod closing;
