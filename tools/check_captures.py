@@ -13,7 +13,7 @@ import sys
 from pathlib import Path
 
 from cases.turns import Cases
-from run_cases import CRATES, Program, answered
+from run_cases import BUILT, Program, answered
 
 
 def listing_of(lister, path):
@@ -39,7 +39,7 @@ def main():
         sys.exit(__doc__)
     paths = sorted(Path(sys.argv[1]).rglob("*.agc"))
     lister = sys.argv[2] if len(sys.argv) == 3 else None
-    program = Program(CRATES / "tests_gate" / "out" / "tests_gate", "turns")
+    program = Program(BUILT)
     lines = [f"{verb} {path.read_bytes().hex(' ').upper()}" for path in paths for verb in ("read", "list")]
     texts = answered(program, Cases(), lines)
     wrong = 0

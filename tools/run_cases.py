@@ -1,5 +1,5 @@
 #!/usr/bin/env python3
-"""Runs the cases of the test programs, and compares their answers.
+"""Runs the cases of the test program, and compares their answers.
 
     python3 tools/run_cases.py [--program FILE] [--print] [NAME ..]
 
@@ -12,8 +12,8 @@ A NAME is that of a part of the cases, and each part is meant where none is give
     gateway     the gateway: scenarios of clients and containers, its command line, its captures
 
 Its cases are the lines of tools/cases/NAME.txt, and tools/cases/NAME.answers.txt has what is to be printed for them. How a line
-becomes calls of its crate, and what is printed of their answers, says tools/cases/NAME.py. The calls go to the program that `rt
-ci` left in the crate's out/, and to what Rattle's own compiler made beside it, or to FILE alone. --print prints the answers in
+becomes calls, and what is printed of their answers, says tools/cases/NAME.py. The calls go to the program that `rt ci` left in
+crates/tests_gate/out, and to what Rattle's own compiler made beside it, or to FILE alone. --print prints the answers in
 place of comparing them. The status is 0 where all are as they were to be.
 """
 
@@ -27,38 +27,33 @@ import tempfile
 import time
 from pathlib import Path
 
+from cases.calls import together
 from cases.told_bytes import NoCase
 
 TOOLS = Path(__file__).resolve().parent
 CASES = TOOLS / "cases"
-CRATES = TOOLS.parent / "crates"
-# The parts of the cases, each with the program that is called.
-PROGRAMS = {
-    "amqp_10": "tests_codecs",
-    "amqp_091": "tests_codecs",
-    "paths": "tests_gate",
-    "turns": "tests_gate",
-    "gateway": "tests_gate",
-}
+BUILT = TOOLS.parent / "crates/tests_gate/out/tests_gate"
+PARTS = ("amqp_10", "amqp_091", "paths", "turns", "gateway")
 SECONDS = 600
 
 
 class Program:
-    """A program that answers calls of a part, a line each."""
+    """A program that answers calls, a line each."""
 
-    def __init__(self, path, part):
+    def __init__(self, path):
         self.path = path
-        self.part = part
 
     def ask(self, calls):
-        text = "".join(f"{self.part} {call}\n" for call in calls)
+        if not calls:
+            return []
+        text = "".join(f"{call}\n" for call in calls)
         done = subprocess.run([self.path], input=text.encode(), stdout=subprocess.PIPE, timeout=SECONDS)
         answers = done.stdout.decode().split("\n")[:-1]
         if done.returncode != 0 or len(answers) != len(calls):
             last = calls[min(len(answers), len(calls) - 1)]
             sys.exit(f"{self.path}: status {done.returncode}, {len(answers)} answers to {len(calls)} calls, up to: {last[:200]}")
         for call, answer in zip(calls, answers):
-            if answer == "no call":
+            if answer == '"no call"':
                 sys.exit(f"{self.path}: no call: {call[:200]}")
         return answers
 
@@ -69,30 +64,25 @@ def printed(text):
     return text if text in ("", "\n") else f"{text}\n"
 
 
+def told(case, line):
+    """What is printed for a line that its case tells."""
+    try:
+        return printed((yield from case))
+    except NoCase:
+        return f"no case: {line}\n"
+
+
 def answered(program, cases, lines):
     """What is printed for each line. A case tells its calls, and is given their answers, as often as it wants."""
-    texts = [""] * len(lines)
-    going = []
-    for k, line in enumerate(lines):
-        if not line or line.startswith("#"):
-            texts[k] = f"{line}\n"
-        else:
-            going.append((k, cases.answer(line), None))
-    while going:
-        asked = []
-        waiting = []
-        for k, case, answers in going:
-            try:
-                calls = case.send(answers)
-                waiting.append((k, case, len(asked), len(asked) + len(calls)))
-                asked += calls
-            except StopIteration as end:
-                texts[k] = printed(end.value)
-            except NoCase:
-                texts[k] = f"no case: {lines[k]}\n"
-        answers = program.ask(asked) if asked else []
-        going = [(k, case, answers[start:end]) for k, case, start, end in waiting]
-    return texts
+    is_case = [line != "" and not line.startswith("#") for line in lines]
+    calls = together([told(cases.answer(line), line) for line, tells in zip(lines, is_case) if tells])
+    answers = None
+    try:
+        while True:
+            answers = program.ask(calls.send(answers))
+    except StopIteration as end:
+        texts = iter(end.value)
+    return [next(texts) if tells else f"{line}\n" for line, tells in zip(lines, is_case)]
 
 
 def difference(lines, texts, wanted):
@@ -106,14 +96,12 @@ def difference(lines, texts, wanted):
     return f"behind the last case is wanted:\n{rest[:400]}" if rest else None
 
 
-def programs_of(name, program):
+def programs_of(program):
     """The programs that are called, of which the second isn't always there."""
     if program is not None:
         return [Path(program)]
-    crate = PROGRAMS[name]
-    built = CRATES / crate / "out" / crate
-    other = built.with_name(f"{crate}.by-rattle")
-    return [built] + ([other] if other.exists() else [])
+    other = BUILT.with_name(f"{BUILT.name}.by-rattle")
+    return [BUILT] + ([other] if other.exists() else [])
 
 
 def runnable(path, folder):
@@ -131,10 +119,10 @@ def run(name, program, prints, folder):
     lines = (CASES / f"{name}.txt").read_text().split("\n")[:-1]
     wanted = (CASES / f"{name}.answers.txt").read_text()
     is_right = True
-    for path in programs_of(name, program):
+    for path in programs_of(program):
         begun = time.monotonic()
         cases = importlib.import_module(f"cases.{name}").Cases()
-        texts = answered(Program(runnable(path, folder), name), cases, lines)
+        texts = answered(Program(runnable(path, folder)), cases, lines)
         if prints:
             sys.stdout.write("".join(texts))
             continue
@@ -152,11 +140,11 @@ def main():
     parser.add_argument("--print", action="store_true", help="print the answers, and compare nothing")
     parser.add_argument("names", nargs="*", metavar="NAME")
     words = parser.parse_args()
-    unknown = set(words.names) - set(PROGRAMS)
+    unknown = set(words.names) - set(PARTS)
     if unknown:
         parser.error(f"no part of the cases: {', '.join(unknown)}")
     with tempfile.TemporaryDirectory() as folder:
-        results = [run(name, words.program, words.print, folder) for name in words.names or PROGRAMS]
+        results = [run(name, words.program, words.print, folder) for name in words.names or PARTS]
     sys.exit(0 if all(results) else 1)
 
 

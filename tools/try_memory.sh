@@ -3,12 +3,12 @@
 #
 #     tools/try_memory.sh [MEGABYTES]
 #
-# It uses crates/tests_codecs/out/tests_codecs: `rt run` in crates/tests_codecs makes it. Each value has less than 64 KiB,
+# It uses crates/tests_gate/out/tests_gate: `rt run` in crates/tests_gate makes it. Each value has less than 64 KiB,
 # the limit is 256 megabytes of address space where none is given, and this is no part of the gate. The status is 0 where
 # each value is refused as it must be.
 set -u
 cd "$(dirname "$0")/.." || exit 2
-program=crates/tests_codecs/out/tests_codecs
+program=crates/tests_gate/out/tests_gate
 if [ ! -x "$program" ]; then
     echo "usage: tools/try_memory.sh [MEGABYTES], once $program is built" >&2
     exit 2
@@ -34,9 +34,10 @@ cases() {
 calls() {
     python3 -c '
 import sys
+from cases.calls_10 import call
 from cases.told_bytes import bytes_of
 for line in sys.stdin:
-    print("amqp_10 value", bytes_of(line.strip().removeprefix("read ")).hex().upper(), 0)'
+    print(call("value", bytes_of(line.strip().removeprefix("read "))))'
 }
 
 diff <(cases | PYTHONPATH=tools calls | (ulimit -v $((megabytes * 1024)) && "$program")) - <<'END' && echo "refused within $megabytes megabytes"

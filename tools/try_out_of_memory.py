@@ -56,7 +56,7 @@ import time
 from pathlib import Path
 
 from cases.gate_command import told_called
-from cases.gate_runs import Gateway
+from cases.gate_runs import Run
 from cases.gateway import Cases
 
 TOOLS = Path(__file__).resolve().parent
@@ -187,7 +187,7 @@ void *realloc(void *old, size_t length) { return fails() ? NULL : __libc_realloc
 
 
 class Program:
-    """The program of tests_gate, of which some allocations fail."""
+    """The test program, of which some allocations fail."""
 
     def __init__(self, path, folder):
         # `rt ci` leaves what an earlier run built as a file that can't be run.
@@ -265,16 +265,16 @@ def calls_of(lines):
             calls += next(cases.answer(line))
         except StopIteration:
             pass
-    return "".join(f"gateway {call}\n" for call in calls).encode()
+    return "".join(f"{call}\n" for call in calls).encode()
 
 
 def called(answer):
     """The call of the gateway, which is what the program answers last."""
-    return Gateway(answer.decode().rstrip("\n").rpartition("\n")[2])
+    return Run(answer.decode().rstrip("\n").rpartition("\n")[2])
 
 
-# What the program answers to a line that prepares the call, where it ran out of memory.
-UNTOLD = b"Err(Memory)\n"
+# What stands in the program's answer where it ran out of memory itself, as it took a line or copied the log.
+UNTOLD = b"Err(Memory)"
 
 
 class Reading:
@@ -1019,7 +1019,6 @@ class Sweep:
         start = self.program.answer(b"\n".join([*lines, b""]))[3]
         was_answered = is_behind = False
         for number, many, answer, status, words in self.program.answers(self.text, start, 2):
-            # (a line before the last one is answered so where there was no memory for what it tells)
             ran_out = status == 1 and b"OutOfMemory" in words and not answer or UNTOLD in answer
             if status and not ran_out:
                 yield number, f"WRONG: the program ends with status {status}: {words[-200:]!r}"

@@ -1,1 +1,1 @@
-"""Cases of the test programs: how each of their lines is told to its program as calls, and how its answer is read."""
+"""Cases of the test program: how each of their lines is told to it as calls, and how its answers are read."""

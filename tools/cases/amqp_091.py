@@ -49,7 +49,9 @@ ROOM = 512
 TEXT_MAX = 255
 NUMBERS = ("u8", "u16", "u32", "u64")
 TEXTS = ("short", "long")
-ANSWERS = ("close-ok", "open-ok", "flow-ok", "declare-ok", "select-ok")
+# The answers that are told together, and those to publishes. `close-ok` is that of a channel, behind the connection's.
+ANSWERS = ("connection-close-ok", "close-ok", "open-ok", "flow-ok", "declare-ok", "select-ok")
+CONFIRMS = ("ack", "nack")
 LISTINGS = {"091": "list-091", "10": "list-10"}
 
 
@@ -64,44 +66,44 @@ def step_text(answer):
     return f"Header {fault_text(parts(step)[0])}" if name_of(step) == "Header" else step
 
 
-def written(made):
-    """The bytes that were written over others, and whether those behind them stayed."""
+def written(made, which):
+    """The bytes that were written over others, of one of several answers, and whether those behind them stayed."""
     answers = yield [made]
-    size, out = parts(answers[0])
+    size, out = parts(parts(answers[0])[which])
     out = bytes_in(out)
     size = int(size)
     more = "" if out[size:] == UNWRITTEN * (ROOM - size) else " | more was written"
     return told_bytes(out[:size]) + more
 
 
-def confirm_call(channel, words):
-    """The call of a basic.ack or a basic.nack by its delivery tag."""
+def confirm(channel, words):
+    """What is written of a basic.ack or a basic.nack by its delivery tag."""
     verb, _, rest = words.partition(" ")
     tag, rest = number_first(rest)
-    if verb not in ("ack", "nack") or rest not in ("", "multiple"):
+    if verb not in CONFIRMS or rest not in ("", "multiple"):
         raise NoCase(words)
-    return call(verb, channel, tag, int(rest == "multiple"))
+    return written(call("confirms", channel, tag, int(rest == "multiple")), CONFIRMS.index(verb))
 
 
-def answer_call(channel, words):
-    """The call of an answer on a channel."""
-    if words not in ANSWERS:
-        return confirm_call(channel, words)
-    return call("channel-close-ok" if words == "close-ok" else words, channel)
+def answered(channel, words):
+    """What is written of an answer on a channel."""
+    return written(call("ok", channel), ANSWERS.index(words)) if words in ANSWERS[1:] else confirm(channel, words)
 
 
 def taken(verb, words, names):
     """What a reader takes from the front of bytes that end at an offset: a number or a text, and what is left."""
     end, words = number_first(words)
-    answers = yield [call(verb, end, data=names.joined(words))]
-    found = parts(answers[0])[0]
-    if name_of(answers[0]) == "Err":
+    (answer,) = yield [call("front", end, data=names.joined(words))]
+    numbers, texts, _ = map(parts, parts(answer))
+    answer = numbers[NUMBERS.index(verb)] if verb in NUMBERS else texts[TEXTS.index(verb)]
+    found = parts(answer)[0]
+    if name_of(answer) == "Err":
         return f"Fault {parts(found)[0]}"
     value, rest = parts(found)
     if verb in TEXTS:
         return f"{told_text(bytes_in(value))} |{told_bytes(bytes_in(rest))}"
-    answers = yield [call("place", end, data=bytes_in(rest))]
-    return f"{value} | {answers[0]}"
+    (answer,) = yield [call("front", end, data=bytes_in(rest))]
+    return f"{value} | {parts(answer)[2]}"
 
 
 def changed(verb, words, names):
@@ -169,22 +171,23 @@ class Cases:
         self.names = Names()
         self.connection = Connection(self.names)
 
-    def close_call(self, verb, numbers, words):
-        """The call of a close by its code, the ids, and its text."""
+    def close(self, which, channel, words):
+        """What is written of a close by its code, the ids, and its text."""
+        numbers = [channel]
         for _ in range(3):
             value, words = number_first(words, 16)
             numbers.append(value)
         text = self.names.joined(words)
         if len(text) > TEXT_MAX:
             raise NoCase(words)
-        return call(verb, *numbers, data=text)
+        return written(call("closes", *numbers, data=text), which)
 
     def on_channel(self, words):
         """What is written on a channel: a close, or an answer."""
         channel, words = number_first(words, 16)
         if words.startswith("close "):
-            return written(self.close_call("channel-close", [channel], words.removeprefix("close ")))
-        return written(answer_call(channel, words))
+            return self.close(1, channel, words.removeprefix("close "))
+        return answered(channel, words)
 
     def assembled(self, words):
         """What each frame of a content comes to."""
@@ -202,16 +205,13 @@ class Cases:
         scope, _, name = words.partition(" ")
         if scope not in SCOPES:
             raise NoCase(words)
-        if name:
-            answers = yield [call("code-of", SCOPES[scope], data=self.names.joined(name))]
-        else:
-            answers = yield [call("code-of-none", SCOPES[scope])]
-        return answers[0]
+        (answer,) = yield [call("codes", SCOPES[scope], data=self.names.joined(name))]
+        return parts(answer)[0 if name else 1]
 
     def coded(self, verb, words):
         """The name of a reply code, or of the error condition for it."""
-        answers = yield [call("code-name" if verb == "code" else "condition", number(words, 16))]
-        return told_text(bytes_in(answers[0]))
+        (answer,) = yield [call("names", number(words, 16))]
+        return told_text(bytes_in(parts(answer)[0 if verb == "code" else 1]))
 
     def single_case(self, verb, rest):
         """The generator of a case that neither a codec nor the connection has."""
@@ -230,8 +230,8 @@ class Cases:
             "room": lambda: reserved(rest, self.names),
             "content-of": lambda: self.assembled(rest),
             "condition": lambda: self.condition(rest),
-            "close": lambda: written(self.close_call("close", [], rest)),
-            "close-ok": lambda: written(call("close-ok")),
+            "close": lambda: self.close(0, 0, rest),
+            "close-ok": lambda: written(call("ok"), 0),
             "on": lambda: self.on_channel(rest),
         }
         if verb not in others:

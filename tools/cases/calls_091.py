@@ -2,6 +2,7 @@
 
 import re
 
+from . import calls
 from .debug import text_of
 from .told_bytes import NoCase
 
@@ -12,8 +13,7 @@ LETTERS = re.compile(r"(.)\1{15,}", re.S)
 
 def call(verb, *numbers, data=b""):
     """The line of a call. Without data its bytes are those of the line before, which spares long ones."""
-    words = " ".join(map(str, (verb, *numbers)))
-    return words if data is None else f"{words}:{data.hex().upper()}"
+    return calls.call("amqp_091", verb, *numbers, data=data)
 
 
 def number(word, bits=64):
@@ -86,24 +86,3 @@ def fault_text(text):
 def squeezed(text):
     """A text in which long runs of a letter are told by their length."""
     return LETTERS.sub(lambda run: f"{run[1]}*{len(run[0])}", text)
-
-
-def together(cases):
-    """Steps through generators of calls side by side, so that a step of all takes one run; what each returned."""
-    cases = list(cases)
-    results = [None] * len(cases)
-    going = [(k, case, None) for k, case in enumerate(cases)]
-    while going:
-        asked = []
-        waiting = []
-        for k, case, answers in going:
-            try:
-                calls = case.send(answers)
-                waiting.append((k, case, len(asked), len(asked) + len(calls)))
-                asked += calls
-            except StopIteration as end:
-                results[k] = end.value
-        if waiting:
-            answers = yield asked
-        going = [(k, case, answers[start:end]) for k, case, start, end in waiting]
-    return results

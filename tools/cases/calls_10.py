@@ -2,30 +2,34 @@
 
 import re
 
-from cases import debug
+from cases import calls, debug
 from cases.told_bytes import NoCase, told_bytes
 
-READ = re.compile(r"Ok\(Ok\(\((?P<value>.*), (?P<after>\d+)\)\)\)", re.S)
+READ = re.compile(r"Ok\(\((?P<value>.*), (?P<after>\d+)\)\)", re.S)
 FAULT = re.compile(r"Err\(At \{ fault: (?P<fault>\w+), at: (?P<at>\d+) \}\)")
-WRITTEN = re.compile(r'\(Ok\(\(\)\), (?P<text>".*")\)', re.S)
+TEXT = r'"[^"\\]*(?:\\.[^"\\]*)*"'
+WRITTEN = rf"Ok\((?:true|false)\), {TEXT}"
+READ_AND_WRITTEN = re.compile(rf"\((?P<read>.*), (?P<written>{WRITTEN})\)", re.S)
 # What stands before a value and a message that is written.
 BEFORE = b"before"
 
 
-def digits(data):
-    """Bytes as a call has them."""
-    return data.hex().upper()
+def call(verb, data=b"", *numbers):
+    """The line of a call with bytes and numbers."""
+    return calls.call("amqp_10", verb, *numbers, data=data)
 
 
-def call(verb, data, number=None):
-    """The line of a call with bytes, and with a number where it has one."""
-    behind = "" if number is None else f" {number}"
-    return f"{verb} {digits(data)}{behind}"
+def parted(answer):
+    """The text of what was read, and that of what is written of it."""
+    found = READ_AND_WRITTEN.fullmatch(answer)
+    if found is None:
+        raise ValueError(f"nothing about what is written: {answer[:200]}")
+    return found["read"], found["written"]
 
 
-def read_of(answer):
+def read_of(text):
     """The text of a value that was read, and the offset behind it; None where a fault was told."""
-    found = READ.fullmatch(answer)
+    found = READ.fullmatch(text)
     return (found["value"], int(found["after"])) if found else None
 
 
@@ -37,16 +41,13 @@ def fault_of(answer):
     return found["fault"], int(found["at"])
 
 
-def written_of(answer, before=b""):
+def written_of(text, before=b""):
     """The bytes that were written behind others; None where nothing can be."""
-    if answer == "false":
+    if not text.startswith("Ok(true)"):
         return None
-    found = WRITTEN.fullmatch(answer)
-    if found is None:
-        raise ValueError(f"nothing was written: {answer[:200]}")
-    data = debug.read(found["text"])
+    data = debug.text_of(text.removeprefix('Ok(true), "').removesuffix('"'))
     if not data.startswith(before):
-        raise ValueError(f"what stood before is written over: {answer[:200]}")
+        raise ValueError(f"what stood before is written over: {text[:200]}")
     return data[len(before) :]
 
 

@@ -1,6 +1,7 @@
 """Cases of the codecs of AMQP 0-9-1. A codec is a generator that yields calls, is sent answers, and returns a text."""
 
-from .calls_091 import bytes_in, call, fault_text, fields, fine, fine_after, name_of, number_first, parts, squeezed, together
+from .calls import together
+from .calls_091 import bytes_in, call, fault_text, fields, fine, fine_after, name_of, number_first, parts, squeezed
 from .told_bytes import NoCase, told_bytes
 
 # The most bytes that come before the others.

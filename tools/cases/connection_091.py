@@ -8,6 +8,7 @@ from .told_bytes import NoCase, told_bytes
 FRAME_MAX = 131072
 UNITS = {kind.lower(): number for kind, number in KINDS.items()}
 CHANNELS = range(301)
+SWAP = call("swap")
 STATE = [call("state")] + [call("is-open", channel) for channel in CHANNELS]
 HELD = ("asked", "opening", "closing", "over")
 CHANNEL_SCOPE, CONNECTION_SCOPE = 0, 1
@@ -110,10 +111,10 @@ class Connection:
     def taken(self, words, tries):
         """A unit or another event, and the state after it. One that is tried comes to the other of two connections."""
         made = yield from self.unit_call(words)
-        before = ["swap:"] + self.came if tries else []
+        before = [SWAP, *self.came] if tries else []
         if not tries:
             self.came = self.came + [made]
-        answers = yield before + STATE + [made] + STATE + (["swap:"] if tries else [])
+        answers = yield before + STATE + [made] + STATE + ([SWAP] if tries else [])
         answers = answers[len(before) :]
         old, told, new = answers[: len(STATE)], answers[len(STATE)], answers[len(STATE) + 1 : 2 * len(STATE) + 1]
         text = words if told == "true" else want_text(fine(told))

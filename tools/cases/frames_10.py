@@ -1,8 +1,10 @@
 """Cases of frames and protocol headers of AMQP 1.0."""
 
 from cases import debug
-from cases.calls_10 import call, number_of, told_written, written_of
+from cases.calls_10 import call, number_of, parted, told_written, written_of
 from cases.told_bytes import NoCase, bytes_of, told_bytes
+
+KINDS = ("amqp", "sasl")
 
 
 def told_bad(scan):
@@ -10,9 +12,10 @@ def told_bad(scan):
     return f"{scan[0]['fault'].name} at {scan[0]['at']}"
 
 
-def answer_of(data, scanned, put):
+def answer_of(data, answer):
     """The frame with which bytes begin, the offset behind it and what is written of it; `more`; or a fault."""
-    scan = debug.read(scanned)[0]
+    found, put = parted(answer)
+    scan = debug.read(found)
     if scan.name == "More":
         return "more"
     if scan.name == "Bad":
@@ -28,8 +31,8 @@ def frame(words):
     number, _, rest = words.partition(" ")
     limit, data = number_of(number, 32), bytes_of(rest)
     sizes = range(len(data) + 1)
-    answers = yield [call(verb, data[:size], limit) for size in sizes for verb in ("frame", "frame-put")]
-    *shorter, text = [answer_of(data[:size], answers[2 * size], answers[2 * size + 1]) for size in sizes]
+    answers = yield [call("frame", data[:size], limit) for size in sizes]
+    *shorter, text = [answer_of(data[:size], answer) for size, answer in zip(sizes, answers)]
     text += " | cuts"
     for size, found in enumerate(shorter):
         if found != "more":
@@ -39,10 +42,10 @@ def frame(words):
 
 def header(words):
     kind, _, rest = words.partition(" ")
-    if kind not in ("amqp", "sasl"):
+    if kind not in KINDS:
         raise NoCase(words)
-    (answer,) = yield [call(f"header-{kind}", bytes_of(rest))]
-    scan = debug.read(answer)
+    (answer,) = yield [call("headers", bytes_of(rest))]
+    scan = debug.read(answer)[KINDS.index(kind)]
     if scan.name == "Bad":
         return told_bad(scan)
     return "more" if scan.name == "More" else f"whole | {scan[1]}"

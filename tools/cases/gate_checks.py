@@ -1,6 +1,6 @@
 """Runs in which a call fails, or a write of the report: what must hold of each, whichever it is."""
 
-from cases.gate_runs import KINDS, Service, is_front_part, made
+from cases.gate_runs import KINDS, Run, is_front_part, made
 from cases.gate_telling import told_report, text_in
 
 
@@ -38,17 +38,17 @@ def nothing_of_it_follows(run, at, peer):
 
 def accept_failed(run, at):
     """After a failed accept each live pair is shut, and nothing else is called."""
-    return run.served == "Fault(Accept)" and run.only_shuts_from(at) and is_report(run, "fault: accept")
+    return run.status == "Outside" and run.only_shuts_from(at) and is_report(run, "fault: accept")
 
 
 def goes_on(run):
     """The service goes on after what failed of a pair, until it is stopped."""
-    return is_report(run, f"stopped: {len(run.accepted)} pairs") and run.served == "Stopped"
+    return is_report(run, f"stopped: {len(run.accepted)} pairs") and run.status == "Ok"
 
 
 def nothing_failed(run, plain):
     """A call of a kind that cannot fail: the run goes as if none were to."""
-    return (run.served, run.report, len(run.calls)) == (plain.served, plain.report, len(plain.calls))
+    return (run.status, run.report, len(run.calls)) == (plain.status, plain.report, len(plain.calls))
 
 
 def keeps_rule(run, plain, at):
@@ -81,13 +81,11 @@ def told_fails(scenario):
     Behind them stand the reports that tell of publishes or deliveries, each behind the calls whose fault gave it.
     """
     (text,) = yield from made([scenario.play()])
-    plain = Service(text)
+    plain = Run(text)
     answers = yield from made([scenario.service(scenario.sent, call) for call in range(len(plain.calls))])
-    runs = [Service(text) for text in answers]
+    runs = [Run(text) for text in answers]
     kinds = "".join(f" {kind}" for kind in KINDS if plain.count_of(kind) > 0)
-    are_right = [
-        run.out_of_memory == 0 and run.is_all_shut() and keeps_rule(run, plain, at) for at, run in enumerate(runs)
-    ]
+    are_right = [run.is_all_shut() and keeps_rule(run, plain, at) for at, run in enumerate(runs)]
     broken = "".join(f", not call {at}" for at, is_right in enumerate(are_right) if not is_right)
     texts = [told_report(run.report) if tells_of_life(run.report) else "" for run in runs]
     return f"fails:{kinds}{broken}{told_places(texts)}"
@@ -106,14 +104,14 @@ def stops_at_once(run, lines):
 
 def is_front(run, plain):
     """What a report that failed holds is a front part of the whole report, and the service ended with its failure."""
-    is_part = is_front_part(run.report, plain.report) and run.served == "Fault(Out)"
+    is_part = is_front_part(run.report, plain.report) and run.status == "Outside"
     return is_part and stops_at_once(run, plain.report.count(b"\n")) and run.is_all_shut()
 
 
 def told_unreported(scenario):
     """How many of the first writes of a report failed at least, as many as it has lines, and what broke a rule."""
     (text,) = yield from made([scenario.play()])
-    plain = Service(text)
+    plain = Run(text)
     lines = plain.report.count(b"\n")
     out = [f"unreported: {lines} lines"]
     places = range(len(plain.report))
@@ -121,12 +119,12 @@ def told_unreported(scenario):
     unroomed = yield from made([scenario.service(scenario.sent, None, room=at) for at in places])
     comes = True
     for at in places:
-        run = Service(unwritten[at])
-        stopped = run.served != plain.served
+        run = Run(unwritten[at])
+        stopped = run.status != plain.status
         # Each line is written, and where one write comes no more, no later one does.
         is_right = comes and is_front(run, plain) if stopped else at >= lines and nothing_failed(run, plain)
         out += [] if is_right else [f", not write {at}"]
-        run = Service(unroomed[at])
+        run = Run(unroomed[at])
         out += [] if len(run.report) == at and is_front(run, plain) else [f", not room {at}"]
         comes = stopped
     return "".join(out + ([", a write without a byte"] if comes else []))

@@ -1,7 +1,7 @@
 """Cases of the command line, and of what the gateway does for one."""
 
 from cases import debug
-from cases.gate_runs import LIST, Gateway, bytes_in, is_front_part, made
+from cases.gate_runs import LIST, Run, bytes_in, is_front_part, made
 from cases.gate_scenario import word_lines
 from cases.gate_telling import text_in, told_report
 from cases.told_bytes import NoCase, bytes_of, told_bytes, told_text
@@ -49,7 +49,7 @@ def told_words(words):
 def told_statuses():
     """The number of each status."""
     (text,) = yield [call_of("statuses")]
-    return "statuses" + "".join(f" {status.name} {number}" for status, number in debug.read(text))
+    return "statuses" + "".join(f" {status.name} {number}" for status, number in zip(*debug.read(text)))
 
 
 def told_called(call):
@@ -61,16 +61,16 @@ def told_called(call):
 def told_gateway(scenario, words):
     """What the gateway does for words."""
     (text,) = yield from made([scenario.gateway(words, scenario.numbers["capture"], scenario.numbers["lost"])])
-    return told_called(Gateway(text))
+    return told_called(Run(text))
 
 
 def told_again(scenario, words):
     """What the gateway does for words that ask for a capture, and then to replay it."""
     room = scenario.numbers["capture"]
     (text,) = yield from made([scenario.gateway(words, room)])
-    first = Gateway(text)
+    first = Run(text)
     (text,) = yield from made([scenario.gateway([b"replay"], room, data=first.capture)])
-    return f"{first.call_count} calls, again: {told_called(Gateway(text))}"
+    return f"{first.call_count} calls, again: {told_called(Run(text))}"
 
 
 def rest_in(answer):
@@ -117,12 +117,12 @@ def told_uncaptured(scenario, words):
     """
     room = scenario.numbers["capture"]
     (text,) = yield from made([scenario.gateway(words, room)])
-    whole = Gateway(text)
+    whole = Run(text)
     places = range(len(whole.capture))
     answers = yield from made(
         [scenario.gateway(words, at) for at in places] + [scenario.gateway(words, room, at) for at in places]
     )
-    calls = [Gateway(text) for text in answers]
+    calls = [Run(text) for text in answers]
     are_front = yield from are_fronts(calls, whole)
     out = [f"uncaptured: {len(whole.capture)} bytes"]
     writes = 0

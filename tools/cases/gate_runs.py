@@ -1,6 +1,6 @@
-"""Runs of the gateway, as its test program tells them: the calls on ports with their answers, and what else was left.
+"""Runs of the gateway, as the test program tells them: the calls on ports with their answers, and what else was left.
 
-It reads what derived `Debug`s of `Log`, `Served` and `Status` print.
+It reads what derived `Debug`s of `LogEntry` and `Status` print.
 """
 
 import collections
@@ -13,17 +13,21 @@ KINDS = ("Accept", "Connect", "Read", "Write", "Shut", "Idle", "Now")
 CLIENT = "Client"
 UP = "Up"
 OTHER = {CLIENT: UP, UP: CLIENT}
-MARK = re.compile(r"Mark \{ call: (.*?), start: ([0-9]+), len: ([0-9]+) \}")
+RUN = re.compile(
+    r"\(\(\((?P<status>\w+), (?P<number>\d+)\), \(\[(?P<report>[^\]]*)\], \[(?P<capture>[^\]]*)\]\)\), "
+    r"Ok\(\(\)\), \[(?P<calls>.*)\], Ok\(None\)\)",
+    re.S,
+)
+# A call of the log: its name, what stands before its bytes, they, and what stands behind them.
+ENTRY = re.compile(r'([A-Z][a-z]+) \{ ([^"{}]*)(?:"([^"\\]*(?:\\.[^"\\]*)*)"([^"{}]*))?\}(?:, |$)', re.S)
 LIST = re.compile(r"\[([^\]]*)\]")
-SERVICE = re.compile(r"\(Some\(\((.*), ([0-9]+)\)\), ")
-GATEWAY = re.compile(r"\((.*), ([0-9]+), \(")
 
 
 class Call:
     """A call with its answer, without the bytes that came or were offered. Many calls of many runs share one."""
 
-    def __init__(self, text):
-        value = debug.read(text)
+    def __init__(self, name, before, behind):
+        value = debug.read(f'{name} {{ {before}""{behind} }}' if before.endswith("bytes: ") else f"{name} {{ {before} }}")
         self.kind = value.name
         self.pair = value.parts.get("pair")
         self.end = UP if self.kind == "Connect" else getattr(value.parts.get("end"), "name", None)
@@ -55,34 +59,34 @@ class Call:
 call_of = functools.lru_cache(maxsize=None)(Call)
 
 
+data_of = functools.lru_cache(maxsize=4096)(debug.text_of)
+
+
 def bytes_in(numbers):
     """The bytes that stand as numbers between the brackets of a list."""
     return bytes(map(int, numbers.split(", "))) if numbers else b""
 
 
-def entries_in(marks, data):
-    """The calls of a log, each with its bytes."""
-    entries = []
-    for call, start, size in MARK.findall(marks):
-        first = int(start)
-        entries.append((call_of(call), data[first : first + int(size)] if size != "0" else b""))
-    return entries
-
-
 class Run:
-    """What a run did. What is asked of it is worked out from the calls alone."""
+    """What a call of the gateway did: its status, the number of that, the calls of the ports, the report and the capture.
+
+    What is asked of it is worked out from the calls alone.
+    """
 
     def __init__(self, text):
-        self.head, _, rest = text.partition("Log { marks: [")
-        self.marks, _, rest = rest.partition("], bytes: [")
-        self.data, _, rest = rest.partition("], entry_room: ")
-        self.held = [bytes_in(numbers) for numbers in LIST.findall(rest)]
-        self.report = self.held[0]
+        parts = RUN.fullmatch(text)
+        if parts is None:
+            raise ValueError(f"no run: {text[:200]}")
+        self.status = parts["status"]
+        self.number = int(parts["number"])
+        self.report = bytes_in(parts["report"])
+        self.capture = bytes_in(parts["capture"])
+        self.told_calls = ENTRY.findall(parts["calls"])
 
     @functools.cached_property
     def entries(self):
         """The calls, each with its bytes."""
-        return entries_in(self.marks, bytes_in(self.data))
+        return [(call_of(name, before, behind), data_of(data)) for name, before, data, behind in self.told_calls]
 
     @functools.cached_property
     def calls(self):
@@ -91,7 +95,7 @@ class Run:
     @property
     def call_count(self):
         """How many calls there were, which takes no reading of each."""
-        return self.marks.count("Mark {")
+        return len(self.told_calls)
 
     @functools.cached_property
     def talks(self):
@@ -159,29 +163,6 @@ class Run:
     def only_shuts_from(self, at):
         """Behind a place ends are shut and nothing else is called; the first is made there, whatever it is."""
         return len(self.calls) > at and all(call.kind == "Shut" for call in self.calls[at + 1 :])
-
-
-class Service(Run):
-    """A run of the service: how it ended, and how many pairs ran out of memory."""
-
-    def __init__(self, text):
-        super().__init__(text)
-        ended = SERVICE.fullmatch(self.head)
-        if ended is None:
-            raise ValueError(f"no service was asked for: {text[:80]}")
-        self.served = ended[1]
-        self.out_of_memory = int(ended[2])
-
-
-class Gateway(Run):
-    """A call of the gateway: its status, the number of that, and the capture."""
-
-    def __init__(self, text):
-        super().__init__(text)
-        status = GATEWAY.fullmatch(self.head)
-        self.status = status[1]
-        self.number = int(status[2])
-        self.capture = self.held[1]
 
 
 def is_front_part(held, whole):

@@ -4,7 +4,7 @@ from collections import namedtuple
 
 from cases.gate_runs import CLIENT
 from cases.told_bytes import NoCase
-from cases.scripted_calls import call
+from cases.scripted_calls import call, rooms
 
 # What an end of a pair sends once it took so many bytes, and whether it ends after it.
 Sent = namedtuple("Sent", "pair end after ends data")
@@ -28,7 +28,7 @@ MOST_TURNS = 65_535
 
 
 def fail_lines(verb, place):
-    """Tells that a call of the ports (`fault`), of the source (`in`) or of the sink (`out`) fails, if one does."""
+    """Tells that a call of the ports (`fault`), the source (`in`), the report (`out`) or the capture (`lost`) fails, if any."""
     return [] if place is None else [call(verb, place)]
 
 
@@ -75,7 +75,7 @@ class Scenario:
     def script_lines(self, sent):
         """Tells the script of the ports, in which this is sent."""
         numbers = self.numbers
-        lines = [call("script", numbers["pairs"], numbers["idles"], numbers["step"])]
+        lines = [call("run", numbers["pairs"], numbers["idles"], numbers["step"])]
         lines += [call("piece", s.pair, int(s.end != CLIENT), s.after, int(s.ends), data=s.data) for s in sent]
         return lines + [call("room", t.pair, int(t.end != CLIENT), t.most) for t in self.taken]
 
@@ -91,7 +91,7 @@ class Scenario:
         most = self.numbers["report"]
         lines = self.script_lines(sent) + word_lines(self.service_words())
         lines += fail_lines("out", unwritten) + fail_lines("fault", fault)
-        return lines + [call("serve", self.numbers["log"], most if room is None else min(room, most))]
+        return lines + [rooms(log=self.numbers["log"], report=most if room is None else min(room, most)), call("gateway")]
 
     def play(self, sent=None):
         """A run of the service, in which another thing may be sent than in the scenario."""
@@ -104,9 +104,10 @@ class Scenario:
         """
         numbers = self.numbers
         lines = self.script_lines(self.sent) + word_lines(words)
-        lines += fail_lines("in", numbers["unread"]) + fail_lines("out", lost) + fail_lines("fault", numbers["fault"])
+        lines += fail_lines("in", numbers["unread"]) + fail_lines("lost", lost) + fail_lines("fault", numbers["fault"])
         data = self.input if data is None else data
-        return lines + [call("gateway", numbers["log"], numbers["report"], room, data=data)]
+        sinks = rooms(log=numbers["log"], report=numbers["report"], capture=room)
+        return [*lines, sinks, call("gateway", data=data)]
 
 
 def is_at_once(sent, end):

@@ -132,13 +132,11 @@ class Talk:
 
 
 def told_run(names, run, is_timed=False):
-    """A run in one line: what each client and container got, the pairs that met want of memory, and the report."""
+    """A run in one line: what each client and container got, and the report."""
     out = []
     for pair in run.accepted:
         for end in (CLIENT, UP) if pair in run.linked else (CLIENT,):
             out.append(Talk(names, is_timed).tell(run, (pair, end)))
-    if run.out_of_memory > 0:
-        out.append(f"{run.out_of_memory} out of memory; ")
     return f"{''.join(out)}report{told_report(run.report)}"
 
 

@@ -46,7 +46,7 @@ Bytes are digits, texts and names with commas between them. What is sent without
 
 from cases.gate_checks import told_fails, told_unreported
 from cases.gate_command import told_again, told_gateway, told_statuses, told_uncaptured, told_words, words_of
-from cases.gate_runs import CLIENT, UP, Service, made
+from cases.gate_runs import CLIENT, UP, Run, made
 from cases.gate_scenario import NUMBERS, Scenario, Sent, Taken, number_of
 from cases.gate_telling import told_listing, told_run
 from cases.told_bytes import Names, NoCase
@@ -55,7 +55,7 @@ from cases.told_bytes import Names, NoCase
 def told_line(scenario, names, is_timed):
     """A scenario in one line."""
     (text,) = yield from made([scenario.play()])
-    return told_run(names, Service(text), is_timed)
+    return told_run(names, Run(text), is_timed)
 
 
 def told_changes(scenario, names, titled):
@@ -64,7 +64,7 @@ def told_changes(scenario, names, titled):
     out = []
     last = None
     for (title, _), text in zip(titled, answers):
-        line = told_run(names, Service(text))
+        line = told_run(names, Run(text))
         if line != last:
             out.append(f"{title}{line}")
         last = line
@@ -91,20 +91,20 @@ def pieces(scenario, end):
 def told_list(scenario, names):
     """The calls of a scenario, a line each."""
     (text,) = yield from made([scenario.play()])
-    return told_listing(names, Service(text))
+    return told_listing(names, Run(text))
 
 
 def told_counts(scenario):
     """How many accepts were tried, how many pairs were accepted, and how many lived at most."""
     (text,) = yield from made([scenario.play()])
-    run = Service(text)
+    run = Run(text)
     return f"{run.count_of('Accept')} accepts, {len(run.accepted)} pairs, {run.most_live()} live at most"
 
 
 def told_reads(scenario, end):
     """How many bytes were read of those that came byte by byte."""
     (text,) = yield from made([scenario.play(scenario.singly(end))])
-    return f"{Service(text).read_count()} bytes read"
+    return f"{Run(text).read_count()} bytes read"
 
 
 CHANGES = {"ways": ways, "cuts": cuts, "pieces": pieces}

@@ -3,11 +3,12 @@
 import re
 
 from cases import debug
-from cases.calls_10 import BEFORE, call, digits, number_of, written_of
+from cases.calls_10 import BEFORE, WRITTEN, call, number_of, written_of
 from cases.told_bytes import NoCase, bytes_of, quoted, told_bytes
 
 # A body of at most so many bytes is printed.
 SHORT_BODY = 64
+IMAGE = re.compile(rf"\(({WRITTEN}), (.*)\)", re.S)
 MAPPED = re.compile(r"\((?P<again>true|false), (?P<mapped>.*)\)", re.S)
 
 
@@ -50,11 +51,13 @@ def props_of(answer):
 def to10(words):
     """What is written of the image, and the message that comes back of it: `=` the same."""
     exchange, key, header, body = map(bytes_of, (words.split(",", 3) + [""] * 3)[:4])
-    parts = " ".join(map(digits, (exchange, key, header, body)))
-    content, image, back = yield [call("content", header), f"to10 {parts}", f"back {parts}"]
+    sizes = len(exchange), len(key), len(header)
+    data = exchange + key + header + body
+    content, answer = yield [call("content", header), call("to10", data, *sizes)]
     props = props_of(content)
-    if not image.startswith("(") and image != "false":
-        return image
+    if not answer.startswith("("):
+        return answer
+    image, back = IMAGE.fullmatch(answer).groups()
     there = f"exchange: {quoted(exchange)}, key: {quoted(key)}, props: {props}, body: {quoted(body)}"
     is_same = back == f"Ok(Message091 {{ {there} }})"
     return f"{told_image(image)} | {'=' if is_same else told_mapped(back)}"
@@ -64,7 +67,8 @@ def to091(words):
     """A message of AMQP 1.0 in AMQP 0-9-1, from a queue and for a room."""
     queue, room, message = (words.split(",", 2) + [""] * 2)[:3]
     number = number_of(room.strip(" "), 32)
-    (answer,) = yield [f"to091 {digits(bytes_of(queue))} {number} {digits(bytes_of(message))}"]
+    queue = bytes_of(queue)
+    (answer,) = yield [call("to091", queue + bytes_of(message), len(queue), number)]
     found = MAPPED.fullmatch(answer)
     if found is None:
         raise NoCase(words)

@@ -3,7 +3,7 @@
 from itertools import groupby
 
 from cases import debug
-from cases.calls_10 import BEFORE, call, fault_of, told_written, written_of
+from cases.calls_10 import BEFORE, call, fault_of, parted, told_written, written_of
 from cases.told_bytes import bytes_of, told_bytes
 from cases.values_10 import told_value
 
@@ -44,17 +44,18 @@ def told_message(message):
 
 def answer_of(answer):
     """The message that fills bytes, or a fault and its place."""
-    if answer.startswith("Ok(Ok("):
-        return told_message(debug.read(answer)[0][0])
+    if answer.startswith("Ok("):
+        return told_message(debug.read(answer)[0])
     fault, place = fault_of(answer)
     return f"{fault} {place}"
 
 
 def whole(data):
     """The message that fills bytes, and what is written of it."""
-    read, put = yield [call("message", data), call("message-put", data)]
+    (answer,) = yield [call("message", data)]
+    read, put = parted(answer)
     text = answer_of(read)
-    return text + told_written(written_of(put, BEFORE), data) if read.startswith("Ok(Ok(") else text
+    return text + told_written(written_of(put, BEFORE), data) if read.startswith("Ok(") else text
 
 
 def message(words):
@@ -67,7 +68,7 @@ def cuts_message(words):
     text = yield from whole(data)
     answers = yield [call("message", data[:count]) for count in range(len(data))]
     text += " | cuts"
-    for found, run in groupby(map(answer_of, answers)):
+    for found, run in groupby(answer_of(parted(answer)[0]) for answer in answers):
         count = len(list(run))
         text += f" {found}" + (f"*{count}" if count > 1 else "")
     return text

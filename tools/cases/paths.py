@@ -48,25 +48,59 @@ An answer that has no words of its own here is as a derived `Debug` prints it.
 
 import re
 
+from cases.calls import call
+from cases.calls_091 import bytes_in, parts
 from cases.debug import read
-from cases.told_bytes import NoCase
+from cases.told_bytes import NoCase, quoted
 
+SUBJECTS = ("sender", "receiver", "handles", "publishes", "deliveries")
 CALL = re.compile(r"(\S+)(?: (\d+))?(?: (\d+))?(?: (.*))?")
-# Texts that stand in quotes, which are no part of them.
-QUOTED = ("plain", "confirmed", "mandatory")
+# The words that are told as a sum of marks, and the verbs that take such.
+MARKS = {"more": 1, "settled": 2, "no-image": 4, "again": 8, "multiple": 16}
+# Verbs by which a publish is taken up, with their marks.
+ADDED = {"plain": 0, "confirmed": 32, "mandatory": 96}
+MARKED = ("transfer", "last", "fault", "accept", "reject", "release", "knows")
+# What is asked, by the place of its answer.
+ASKED = {
+    "publishes": (
+        ("next", "next-id", "line", "has-rest", "held", "waits", "unanswered"),
+        ("find", "can-send"),
+    ),
+    "deliveries": (
+        ("tags", "knows", "message", "line", "is-closed", "links", "has-tag"),
+        ("fault", "tag-of", "payload", "count", "is-covered", "is-empty"),
+    ),
+}
+# Answers that are bytes, and are told as texts.
+BYTES = ("tag-of", "payload")
 SENDER = "count {}, credit {}"
 RECEIVER = "count {}, credit {}, limit {}, due {}"
+
+
+def marks_of(words):
+    """The sum of the marks that words tell."""
+    if not set(words) <= set(MARKS):
+        raise NoCase(words)
+    return sum(MARKS[word] for word in words)
 
 
 def call_of(line):
     """The call of a line: numbers that aren't told are 0."""
     subject, _, words = line.partition(" ")
-    found = CALL.fullmatch(words) if words else CALL.fullmatch("all")
-    if found is None:
+    found = CALL.fullmatch(words) if words else CALL.fullmatch("ask")
+    if found is None or subject not in SUBJECTS:
         raise NoCase(line)
     verb, first, second, text = found.groups()
-    text = (text or "").strip('"') if verb in QUOTED else text or ""
-    return f"{subject} {verb} {first or 0} {second or 0} {text}"
+    text = text or ""
+    marks = 0
+    if verb in MARKED:
+        marks, text = marks_of(text.split()), ""
+    elif verb in ADDED:
+        # (the quotes are no part of the text)
+        verb, marks, text = "add", ADDED[verb], text.strip('"')
+    if any(verb in verbs for verbs in ASKED.get(subject, ())):
+        verb = "ask"
+    return call(subject, verb, first or 0, second or 0, marks, data=text.encode())
 
 
 def told_option(value):
@@ -76,9 +110,9 @@ def told_option(value):
 
 def told_handles(answer):
     """What is answered of two links' handles, in the order in which it was asked."""
-    told = answer[0]
-    free, named, going = ([told_option(one) for one in told[part]] for part in ("free", "named", "going"))
-    attached = " ".join(str(taken).lower() for taken in told["attached"])
+    told_free, taken, *told_links = answer[0]
+    free, named, going = ([told_option(one) for one in part] for part in (told_free, *told_links))
+    attached = " ".join(str(is_taken).lower() for is_taken in taken)
     return (
         f"free {free[0]}, attached {attached}, named {' '.join(named)}, limited {free[1]}, "
         f"sent {going[0]}, read {going[1]}, free {free[2]}"
@@ -93,6 +127,15 @@ def told_receiver(answer):
 WAYS = {"handles": told_handles, "receiver": told_receiver, "sender": lambda answer: SENDER.format(*answer)}
 
 
+def asked_of(line, answer):
+    """The answer to what a line asks, of all that is told together."""
+    subject, verb = (line.split(" ") + [""])[:2]
+    for verbs, told in zip(ASKED.get(subject, ()), parts(answer)):
+        if verb in verbs:
+            answer = parts(told)[verbs.index(verb)]
+    return quoted(bytes_in(answer)) if verb in BYTES else answer
+
+
 def told(subject, answer):
     """An answer in the words of the cases. One without a value is that of a call that only prepares others."""
     if subject in WAYS:
@@ -105,8 +148,7 @@ def told(subject, answer):
 
 class Cases:
     def answer(self, line):
-        call = call_of(line)
-        (answer,) = yield [call]
+        (answer,) = yield [call_of(line)]
         if answer == "Err(Memory)":
             raise MemoryError(line)
-        return told(call.partition(" ")[0], answer)
+        return told(line.partition(" ")[0], asked_of(line, answer))

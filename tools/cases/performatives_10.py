@@ -3,7 +3,7 @@
 import re
 
 from cases import debug
-from cases.calls_10 import call, number_of, read_of, told_written, written_of
+from cases.calls_10 import call, number_of, parted, read_of, told_written, written_of
 from cases.told_bytes import NoCase, bytes_of, told_bytes
 
 # How many fields are kept as they are spelled, of the performatives that have such.
@@ -14,14 +14,9 @@ FILLED = 0x5A
 ROOM = 512
 
 
-def calls_of(data):
-    """The calls that read and write the performative with which bytes begin."""
-    return [call("perf", data), call("perf-put", data)]
-
-
 def calls_of_kept(data, answer):
     """The calls that read the values which a performative keeps as they are spelled."""
-    name = answer.removeprefix("Ok(Ok((").partition("(")[0]
+    name = answer.removeprefix("(Ok((").partition("(")[0]
     return [call("kept", data, k) for k in range(KEPT.get(name, 0))]
 
 
@@ -34,25 +29,22 @@ def with_kept(text, kept):
     return SPELLED.sub(lambda _: next(rest), text)
 
 
-def answer_of(data, read, put, kept):
+def answer_of(data, answer, kept):
     """The performative, the offset behind it and what is written of it, or the fault."""
+    read, put = parted(answer)
     found = read_of(read)
     if found is None:
-        return read.removeprefix("Ok(Err(").removesuffix("))")
+        return read.removeprefix("Err(").removesuffix(")")
     text, after = found
     return f"{with_kept(text, kept)} | {after}{told_written(written_of(put), data[:after])}"
 
 
 def answers_of(texts):
     """The answer for each of several bytes."""
-    answers = yield [line for data in texts for line in calls_of(data)]
-    pairs = [(answers[2 * k], answers[2 * k + 1]) for k in range(len(texts))]
-    lines = [calls_of_kept(data, read) for data, (read, _) in zip(texts, pairs)]
+    answers = yield [call("perf", data) for data in texts]
+    lines = [calls_of_kept(data, answer) for data, answer in zip(texts, answers)]
     rest = iter((yield [line for some in lines for line in some]))
-    return [
-        answer_of(data, read, put, [next(rest) for _ in some])
-        for data, (read, put), some in zip(texts, pairs, lines)
-    ]
+    return [answer_of(data, answer, [next(rest) for _ in some]) for data, answer, some in zip(texts, answers, lines)]
 
 
 def read(words):
@@ -76,10 +68,9 @@ def settled(words):
     numbers = words.split(" ")
     if not 2 <= len(numbers) <= 3:
         raise NoCase(words)
-    number_of(numbers[0], 16)
-    for number in numbers[1:]:
-        number_of(number, 32)
-    (answer,) = yield [f"settled {words}"]
+    channel = number_of(numbers[0], 16)
+    first, *last = [number_of(number, 32) for number in numbers[1:]]
+    (answer,) = yield [call("settled", b"", channel, first, len(last), *last)]
     size, room = debug.read(answer)
     more = "" if room[size:] == [FILLED] * (ROOM - size) else " | more was written"
     return f"{size} |{told_bytes(bytes(room[:size]))}{more}"

@@ -1,15 +1,24 @@
-"""The words of calls of the loop and of the gateway."""
+"""The lines of calls of the loop and of the gateway, and of what is told before them."""
 
+from cases import calls
 from cases.told_bytes import NoCase
 
 ENDS = {"client": 0, "up": 1}
+# What only prepares a call.
+PREPARES = ("piece", "room", "fault", "run", "rooms", "in", "out", "lost", "word")
+# The most entries of a log, and the most bytes.
+ENTRY_ROOM = 262_144
+BYTE_ROOM = 1_048_576
 
 
 def call(verb, *numbers, data=b""):
-    """A call of a line: a word, four numbers, and bytes."""
-    words = [verb, *map(str, numbers), *["0"] * (4 - len(numbers))]
-    digits = data.hex().upper()
-    return " ".join(words + [digits]) if digits else " ".join(words)
+    """The line of a call, or of what is told before it."""
+    return calls.call("script" if verb in PREPARES else "gate", verb, *numbers, data=data)
+
+
+def rooms(entries=ENTRY_ROOM, log=BYTE_ROOM, report=0, capture=0):
+    """The line that tells the rooms of the log, in entries and bytes, and of the sinks."""
+    return call("rooms", entries, log, report, capture)
 
 
 def number(word):

@@ -3,7 +3,7 @@
 | Lines | Of | In |
 |---|---|---|
 | what both ends do, and plays | the loop, over scripted ports | this module |
-| `values`, `streams`, `script` and so on | ports, streams in memory, the log and numbers | `turns_outside.py` |
+| `values`, `streams`, `full log` | numbers, texts, streams in memory, and the log | `turns_outside.py` |
 | `source N THEN`, `pace` and so on | sources, sinks and ends over streams | `turns_edge.py` |
 | `read BYTES`, `cuts BYTES`, `list BYTES` | captures | `turns_captures.py` |
 
@@ -32,6 +32,7 @@ A line that plays ends the scenario:
 | Line | Answer |
 |---|---|
 | `list` | the calls with their answers, a line a turn, the report, and how the service ended |
+| `logs` | the log has room for fewer calls and bytes: how many there are, and where it isn't a front of them |
 | `counts` | the turns with several writes, the accepts, and the most pairs that lived |
 | `unreported` | the report fails at each write in turn: how many, and which broke a rule |
 | `unrecorded` | the recorder fails at each call in turn: the same |

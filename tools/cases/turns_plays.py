@@ -1,5 +1,7 @@
 """What is printed of plays: their calls, their counts, and whether they keep to rules where a sink fails."""
 
+import itertools
+
 from cases.debug import shown
 from cases.told_bytes import told_text
 from cases.turns_runs import play, play_as_told, record_sizes
@@ -163,4 +165,29 @@ def unreported(scenario):
     return f"{text} a write of each byte"
 
 
-PLAYS = {"list": listing, "counts": counts, "unreported": unreported, "unrecorded": unrecorded}
+def byte_count(entry):
+    """How many bytes came or were offered in a call."""
+    return len(entry.parts["bytes"]) if entry.name in ("Read", "Write") else 0
+
+
+def front_within(calls, size):
+    """The calls before the first that takes more than so many bytes in all."""
+    sums = itertools.accumulate(map(byte_count, calls))
+    return [entry for entry, total in zip(calls, sums) if total <= size]
+
+
+def logs(scenario):
+    """The log has room for fewer calls, and for fewer bytes: how many there are, and where it isn't a front of them."""
+    plain = yield from play(scenario)
+    size = sum(map(byte_count, plain.calls))
+    text = f"logs: {len(plain.calls)} calls, {size} bytes"
+    for count in range(len(plain.calls)):
+        run = yield from play(scenario, entries=count)
+        text += "" if run.calls == plain.calls[:count] else f", not {count} calls"
+    for count in range(size):
+        run = yield from play(scenario, log=count)
+        text += "" if run.calls == front_within(plain.calls, count) else f", not {count} bytes"
+    return text
+
+
+PLAYS = {"list": listing, "logs": logs, "counts": counts, "unreported": unreported, "unrecorded": unrecorded}

@@ -5,9 +5,10 @@ import re
 
 from cases import debug
 from cases.told_bytes import NoCase, bytes_of
-from cases.scripted_calls import ENDS, call, number
+from cases.scripted_calls import ENDS, call, number, rooms
 
-# The room of a recorder that doesn't fail.
+# The rooms of the log, and of sinks that don't fail.
+ENTRY_ROOM = 65_536
 WHOLE_ROOM = 1_048_576
 # A number that no pair has.
 NO_PAIR = 1 << 32
@@ -22,7 +23,7 @@ NUMBERS = {
     "kept": None,
 }
 RUN = re.compile(
-    r"\(\((?P<ended>\(.*?\)), \[(?P<report>[^\]]*)\], \[(?P<record>[^\]]*)\]\), "
+    r"\(\((?P<ended>\(.*?\)), \(\[(?P<report>[^\]]*)\], \[(?P<record>[^\]]*)\]\)\), "
     r"Ok\(\(\)\), \[(?P<calls>.*)\], Ok\(None\)\)"
 )
 ENTRY = re.compile(r'[A-Z][a-z]+ \{ (?:[^"{}]|"(?:[^"\\]|\\.)*")* \}')
@@ -66,13 +67,17 @@ class Scenario:
         else:
             raise NoCase(verb)
 
-    def play(self, out=None, room=WHOLE_ROOM):
-        """The calls of a play. The report fails at a write, if one is told, and the recorder has so much room."""
+    def play(self, out=None, room=WHOLE_ROOM, entries=ENTRY_ROOM, log=WHOLE_ROOM):
+        """The calls of a play. The report fails at a write, if one is told, and the recorder has so much room.
+
+        The log has room for so many entries and bytes.
+        """
         numbers = self.numbers
-        calls = self.calls + [call("script", numbers["pairs"], numbers["idles"], numbers["step"])]
+        calls = self.calls + [call("run", numbers["pairs"], numbers["idles"], numbers["step"])]
+        calls.append(rooms(entries, log, WHOLE_ROOM, room))
         if out is not None:
             calls.append(call("out", out))
-        return calls + [call("play", numbers["limit"], numbers["turns"], numbers["refused"], room)]
+        return calls + [call("play", numbers["limit"], numbers["turns"], numbers["refused"])]
 
 
 @functools.cache
@@ -103,9 +108,9 @@ def bytes_in(numbers):
     return bytes(map(int, numbers.split(", "))) if numbers else b""
 
 
-def play(scenario, out=None, room=WHOLE_ROOM):
+def play(scenario, **where):
     """Plays a scenario once."""
-    answers = yield scenario.play(out, room)
+    answers = yield scenario.play(**where)
     return Run(answers[-1])
 
 
@@ -130,4 +135,4 @@ def play_as_told(scenario):
     if scenario.numbers["kept"] is not None:
         plain = yield from play(scenario)
         *_, room = yield from record_sizes(plain.record, scenario.numbers["kept"])
-    return (yield from play(scenario, scenario.numbers["out"], room))
+    return (yield from play(scenario, out=scenario.numbers["out"], room=room))

@@ -3,7 +3,7 @@ use Rattle.std.specs.Prelude.{◌≡◌, ℕ, List, Option}
 use Rattle.gate_outside.specs.declared.ports.End.{End}
 use Rattle.gate_relay.specs.Entries.{Entry, is_out_of_memory}
 use Rattle.gate_relay.specs.Sides.{sides}
-use Rattle.tests_gate.specs.declared.turns.ferry.Ferry.{Ferry}
+use Rattle.tests_gate.specs.declared.gate.ferry.Ferry.{Ferry}
 use Rattle.tests_gate.specs.FerryWords.{for_client, for_up, is_settled, order, note_of, offered}
 
 -- a state is what the entries say

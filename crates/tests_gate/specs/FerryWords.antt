@@ -13,8 +13,8 @@ use Rattle.gate_relay.specs.Entries.{Entry, Began, Moment, Came, Settled, Joined
 use Rattle.gate_relay.specs.Entries.{OutOfMemory, is_out_of_memory}
 use Rattle.gate_relay.specs.RelayWords.{RelayWords}
 use Rattle.gate_relay.specs.Sides.{sides, side_of}
-use Rattle.tests_gate.specs.declared.turns.note.Note.{Note}
-use Rattle.tests_gate.specs.declared.turns.note.Note.TheVariants as note
+use Rattle.tests_gate.specs.declared.gate.note.Note.{Note}
+use Rattle.tests_gate.specs.declared.gate.note.Note.TheVariants as note
 
 -- ---- what its entries say
 

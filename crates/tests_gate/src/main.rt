@@ -1,88 +1,146 @@
-//! Makes calls of what is kept of a session, of the loop and what stands around it, and of the gateway. Each is told in a line,
-//! and what it returned is printed as a derived `Debug` prints it. `tools/run_cases.py` tells the calls of the cases in
-//! `tools/cases`.
+//! Makes calls of the libraries. Each is told in a line, and what it returned is printed as a derived `Debug` prints it.
+//! `tools/run_cases.py` tells the calls of the cases in `tools/cases`.
 //!
-//! | First word | Calls | Told by |
+//! A line is `KIND VERB A B C D BYTES`: two words, four numbers, and pairs of hexadecimal digits, of which there may be none. The
+//! words are told by their numbers in `verbs.rt`. A number that a call doesn't take is 0. `=` stands for the bytes of the line
+//! before.
+//!
+//! | Kind | Calls | Told by |
 //! |---|---|---|
-//! | `paths` | links, handles, publishes and deliveries (`paths.rt`) | `tools/cases/paths.py` |
-//! | `turns` | the loop with both ends, ports, streams, the ends of pairs, and captures (`turns.rt`) | `tools/cases/turns.py` |
-//! | `gateway` | the gateway over scripted ports, and its command line (`gateway.rt`) | `tools/cases/gateway.py` |
-//!
-//! What a line of the last two tells before a call stands in `scripted.rt`.
+//! | `amqp_10` | AMQP 1.0, and messages of each protocol in the other (`amqp_10.rt`) | `tools/cases/amqp_10.py` |
+//! | `amqp_091` | AMQP 0-9-1, and listings of both protocols (`amqp_091.rt`) | `tools/cases/amqp_091.py` |
+//! | `sender`, `receiver`, `handles`, `publishes`, `deliveries` | what is kept of a session (`paths.rt`) | `tools/cases/paths.py` |
+//! | `script` | what is told before a call of the gate (`scripted.rt`) | `tools/cases/turns.py`, `gateway.py` |
+//! | `gate` | the gateway, the loop, ports, streams, the ends of pairs, and captures (`gate.rt`) | the same |
 #![tactic(auto)]
 
-mod gateway;
+mod amqp_091;
+mod amqp_10;
+mod call;
+mod gate;
 mod paths;
 mod scripted;
-mod turns;
+mod verbs;
 
+use amqp_10::call_10;
+use amqp_091::Calls091;
+use call::{Answer, Call, bytes_of, first_number, four_numbers};
+use content_091::content_laws;
+use frames_091::frame_laws;
+use gate::{Edge, call_gate};
 use gate_capture::{capture_laws, replay_laws};
-use gateway::GateCalls;
+use machine_091::connection_laws;
+use methods_091::method_laws;
 use paths::Paths;
-use scripted::{Scripted, Words, words_of};
+use property_map::map_laws;
+use scripted::Scripted;
+use sections_10::message_laws;
 use std::alloc::Global;
-use std::io;
-use tests_support::{Answer, Calls, answer_lines, bytes_of, first_word};
-use turns::TurnCalls;
+use std::io::{Input, Print, Write};
+use std::{io, mem};
+use tables_091::table_laws;
+use types_10::{Value10, value_laws};
+use verbs::{AMQP_10, AMQP_091, GATE, SCRIPT};
+use wire_base::{ByteText, Memory};
 
-/// The calls of each kind, and what they are made on.
+/// What calls are made on.
 #[derive(Drop)]
-struct AllCalls {
+struct Subjects {
+    values: Vec<Value10>,
+    amqp_091: Calls091,
     paths: Paths,
     scripted: Scripted,
-    turns: TurnCalls,
-    gateway: GateCalls,
+    edge: Edge,
 }
 
-impl AllCalls {
-    fn new(alloc: Global) -> AllCalls {
-        AllCalls {
+/// All of these, and the bytes of the last line.
+#[derive(Drop)]
+struct Program {
+    bytes: ByteText,
+    subjects: Subjects,
+}
+
+impl Subjects {
+    fn new(alloc: Global) -> Subjects {
+        Subjects {
+            values: Vec::new(alloc),
+            amqp_091: Calls091::new(alloc),
             paths: Paths::new(alloc),
             scripted: Scripted::new(alloc),
-            turns: TurnCalls::new(),
-            gateway: GateCalls::new(alloc),
+            edge: Edge::new(),
         }
     }
 
-    /// Makes a call that may be scripted.
-    fn call(&mut self, alloc: Global, kind: &str, words: Words, bytes: &[u8]) -> Answer {
-        if let Some(answer) = self.scripted.tell(alloc, words, bytes) {
-            return answer;
-        }
+    /// Makes a call.
+    fn call(&mut self, alloc: Global, kind: u64, call: Call) -> Answer {
         match kind {
-            "turns" => self.turns.call(alloc, &mut self.scripted, words, bytes),
-            _ => self.gateway.call(alloc, &mut self.scripted, words, bytes),
+            AMQP_10 => call_10(alloc, &mut self.values, call),
+            AMQP_091 => self.amqp_091.call(alloc, call),
+            SCRIPT => self.scripted.tell(alloc, call),
+            GATE => call_gate(alloc, &mut self.scripted, &mut self.edge, call),
+            _ => self.paths.call(alloc, kind, call),
         }
-    }
-
-    /// The same of a line.
-    fn call_line(&mut self, alloc: Global, kind: &str, line: &str) -> Answer {
-        let Some((words, digits)) = words_of(line) else {
-            return Ok(None);
-        };
-        let bytes = bytes_of(alloc, digits)?;
-        let answer = self.call(alloc, kind, words, bytes.as_slice());
-        drop(bytes);
-        answer
     }
 }
 
-impl Calls for AllCalls {
+impl Program {
+    /// Makes the call that a line tells.
     fn answer(&mut self, alloc: Global, line: &str) -> Answer {
-        let (kind, call) = first_word(line);
-        match kind {
-            "paths" => self.paths.answer(alloc, call),
-            "turns" | "gateway" => self.call_line(alloc, kind, call),
-            _ => Ok(None),
+        let (kind, words) = first_number(line);
+        let (verb, words) = first_number(words);
+        let (numbers, digits) = four_numbers(words);
+        if digits != "=" {
+            drop(mem::replace(&mut self.bytes, bytes_of(alloc, digits)?));
         }
+        let call = Call {
+            verb,
+            numbers,
+            bytes: self.bytes.as_slice(),
+        };
+        self.subjects.call(alloc, kind, call)
     }
+
+    /// What is printed for all lines.
+    fn answers(&mut self, alloc: Global, lines: &str) -> Result<String, Memory> {
+        let mut out = String::new(alloc);
+        for line in lines.lines() {
+            let text = self.answer(alloc, line)?;
+            out.push_str(text.as_str())?;
+        }
+        Ok(out)
+    }
+}
+
+/// Reads lines up to the end of the input, and prints the answer to each.
+fn answer_lines<R: Input + Print + AllocGlobal>(rt: &R, program: &mut Program) -> io::Result<()> {
+    let lines = io::read_to_string(rt.alloc(), rt.reader())?;
+    match program.answers(rt.alloc(), lines.as_str()) {
+        Ok(text) => io::writer(rt).write_all(text.as_bytes()),
+        Err(Memory) => Err(io::Error::from(io::ErrorKind::OutOfMemory)),
+    }
+}
+
+/// The laws of the libraries, each called once.
+fn know_laws() {
+    value_laws();
+    message_laws();
+    map_laws();
+    frame_laws();
+    table_laws();
+    method_laws();
+    content_laws();
+    connection_laws();
+    capture_laws();
+    replay_laws();
 }
 
 fn main(rt: HostRuntime) -> io::Result<()> {
-    capture_laws();
-    replay_laws();
-    let mut calls = AllCalls::new(rt.alloc());
-    let done = answer_lines(&rt, &mut calls);
-    drop(calls);
+    know_laws();
+    let mut program = Program {
+        bytes: ByteText::empty(rt.alloc()),
+        subjects: Subjects::new(rt.alloc()),
+    };
+    let done = answer_lines(&rt, &mut program);
+    drop(program);
     done
 }

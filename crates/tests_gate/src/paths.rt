@@ -1,12 +1,12 @@
 //! Calls of what is kept of a session's links, publishes and deliveries.
 //!
-//! A line is a subject, a verb, two numbers of 32 bits and a text. What a call takes none of is 0, or empty.
+//! A line has two numbers of 32 bits, a sum of marks (`words.rt`), and a text as its bytes.
 //!
 //! | Line | Answer |
 //! |---|---|
 //! | `sender new`, `begin`, `credit CREDIT`, `flow COUNT CREDIT`, `drain` | the delivery-count and the credit of a sending link after it |
 //! | `receiver quota N`, `attached COUNT`, `granted CREDIT`, `arrived`, `recounted N`, `flow COUNT`, `cancel` | the delivery-count and the credit of a receiving link, what is left of its limit, and the credit that is due |
-//! | `handles` | what is answered of the handles of two links, of which one goes |
+//! | `handles ask` | what is answered of the handles of two links, of which one goes |
 //! | `publishes life N`, `deliveries life N` | a life begins, without links |
 //! | `publishes` and a verb | what the call of that name answers (`publishes.rt`) |
 //! | `deliveries` and a verb | the same (`deliveries.rt`) |
@@ -17,6 +17,8 @@ mod handles;
 mod publishes;
 mod words;
 
+use crate::call::{Answer, Call, no_call, told};
+use crate::verbs::{DELIVERIES, HANDLES, LIFE, PUBLISHES, RECEIVER, SENDER};
 use consume_path::Deliveries;
 use credits::{call_receiver, call_sender};
 use deliveries::call_deliveries;
@@ -24,7 +26,7 @@ use handles::handle_two_links;
 use links_10::{RecvLink, SendLink};
 use publishes::Sends;
 use std::alloc::Global;
-use tests_support::{Answer, Calls, first_word, told};
+use std::mem;
 use words::{Words, words_of};
 
 /// What the calls are about.
@@ -48,8 +50,9 @@ impl Paths {
 
     /// A call of the publishes.
     fn call_sends(&mut self, alloc: Global, words: Words) -> Answer {
-        if words.verb == "life" {
-            self.sends = Sends::new(alloc, u64::from(words.first));
+        if words.verb == LIFE {
+            let sends = Sends::new(alloc, u64::from(words.first));
+            drop(mem::replace(&mut self.sends, sends));
             return told(alloc, ());
         }
         self.sends.call(alloc, words)
@@ -57,27 +60,24 @@ impl Paths {
 
     /// A call of the deliveries.
     fn call_deliveries(&mut self, alloc: Global, words: Words) -> Answer {
-        if words.verb == "life" {
-            self.deliveries = Deliveries::new(alloc, u64::from(words.first));
+        if words.verb == LIFE {
+            let deliveries = Deliveries::new(alloc, u64::from(words.first));
+            drop(mem::replace(&mut self.deliveries, deliveries));
             return told(alloc, ());
         }
         call_deliveries(alloc, &mut self.deliveries, words)
     }
-}
 
-impl Calls for Paths {
-    fn answer(&mut self, alloc: Global, line: &str) -> Answer {
-        let (subject, rest) = first_word(line);
-        let Some(words) = words_of(rest) else {
-            return Ok(None);
-        };
+    /// Makes a call on a subject.
+    pub fn call(&mut self, alloc: Global, subject: u64, call: Call) -> Answer {
+        let words = words_of(call);
         match subject {
-            "sender" => call_sender(alloc, &mut self.sender, words),
-            "receiver" => call_receiver(alloc, &mut self.receiver, words),
-            "handles" => told(alloc, handle_two_links(alloc)),
-            "publishes" => self.call_sends(alloc, words),
-            "deliveries" => self.call_deliveries(alloc, words),
-            _ => Ok(None),
+            SENDER => call_sender(alloc, &mut self.sender, words),
+            RECEIVER => call_receiver(alloc, &mut self.receiver, words),
+            HANDLES => told(alloc, handle_two_links(alloc)),
+            PUBLISHES => self.call_sends(alloc, words),
+            DELIVERIES => self.call_deliveries(alloc, words),
+            _ => no_call(alloc),
         }
     }
 }

@@ -1,37 +1,46 @@
-//! What lines tell before a call: a script of ports, and the calls at which a source or a sink
-//! fails.
+//! What lines tell before a call of the gate: a script of ports, the words of a command line, and
+//! where sources and sinks end or fail.
 //!
 //! | Line | Meaning |
 //! |---|---|
-//! | `piece PAIR END AFTER ENDS BYTES` | an end sends bytes once it took so many; it ends then where ENDS isn't 0 |
-//! | `room PAIR END MOST 0` | the next write to an end takes so many bytes at most |
-//! | `fault CALL 0 0 0` | a call of the ports fails |
-//! | `script PAIRS IDLES STEP 0` | how many clients come, how often `idle` answers Go, and the milliseconds of a turn |
-//! | `in CALL 0 0 0`, `out CALL 0 0 0` | a call of the next source fails, or of the next sink that may |
+//! | `piece PAIR END AFTER ENDS`, bytes | an end sends bytes once it took so many; it ends then where ENDS isn't 0 |
+//! | `room PAIR END MOST` | the next write to an end takes so many bytes at most |
+//! | `fault CALL` | a call of the ports fails |
+//! | `run PAIRS IDLES STEP` | how many clients come, how often `idle` answers Go, and the milliseconds of a turn |
+//! | `rooms ENTRIES LOG REPORT CAPTURE` | the most entries and bytes of the log, and the most bytes of the report and of the capture |
+//! | `in CALL`, `out CALL`, `lost CALL` | a call of the source fails, of the report, or of the capture |
+//! | `word`, bytes | one more word; what isn't UTF-8 is an empty one |
 //!
-//! END is 0 for the client's end and 1 for that upstream. The next call with ports takes the script,
-//! and the next one with a source or a sink takes the calls that fail. Then there are none.
+//! END is 0 for the client's end and 1 for that upstream. The next call that is given ports, words, a
+//! source or sinks takes all of it.
 
-use gate_outside::{CallList, End, Piece, Room, Script};
+use crate::call::{Answer, Call, no_call, told, word_of};
+use crate::verbs::{FAULT, IN, LOST, OUT, PIECE, ROOM, ROOMS, RUN, WORD};
+use gate_command::CaptureSink;
+use gate_outside::{CallList, End, MemorySink, MemorySource, Piece, Room, Script};
 use std::alloc::Global;
 use std::mem;
-use tests_support::{Answer, first_number, first_word, told};
-use wire_base::{ByteText, ItemList};
-
-/// The word of a line, and its numbers.
-#[derive(Clone, Copy)]
-pub struct Words<'a> {
-    pub verb: &'a str,
-    pub numbers: [u64; 4],
-}
+use wire_base::{ByteText, ItemList, Memory};
 
 /// What was told and not taken yet.
 #[derive(Drop)]
 pub struct Scripted {
     script: Script,
-    /// The calls at which the next source fails, and the next sink.
+    pub words: Vec<String>,
+    /// The calls at which the source fails, the report, and the capture.
     unread: CallList,
-    unwritten: CallList,
+    unreported: CallList,
+    lost: CallList,
+    /// The most entries and bytes of the log, and the most bytes of the report and of the capture.
+    pub rooms: [usize; 4],
+}
+
+/// A source, a sink for the report and one for the capture.
+#[derive(Drop)]
+pub struct Streams {
+    pub input: MemorySource,
+    pub report: MemorySink,
+    pub capture: CaptureSink<MemorySink>,
 }
 
 /// A script of one pair of which nothing comes.
@@ -46,48 +55,33 @@ fn quiet(alloc: Global) -> Script {
     }
 }
 
-/// A number of 32 bits at most; the largest one for what is larger.
-pub fn small(number: u64) -> u32 {
-    u32::try_from(number).unwrap_or(u32::MAX)
-}
-
 /// The end that a number stands for.
 fn end_of(number: u64) -> End {
     if number == 0 { End::Client } else { End::Up }
 }
 
-/// The words of a line, and its digits; `None` where a number is missing.
-pub fn words_of(line: &str) -> Option<(Words, &str)> {
-    let (verb, rest) = first_word(line);
-    let (a, rest) = first_number(rest)?;
-    let (b, rest) = first_number(rest)?;
-    let (c, rest) = first_number(rest)?;
-    let (d, digits) = first_number(rest)?;
-    let words = Words {
-        verb,
-        numbers: [a, b, c, d],
-    };
-    Some((words, digits))
-}
-
 impl Scripted {
+    /// Nothing was told.
     pub fn new(alloc: Global) -> Scripted {
         Scripted {
             script: quiet(alloc),
+            words: Vec::new(alloc),
             unread: ItemList::empty(alloc),
-            unwritten: ItemList::empty(alloc),
+            unreported: ItemList::empty(alloc),
+            lost: ItemList::empty(alloc),
+            rooms: [0; 4],
         }
     }
 
     /// Adds what an end sends.
-    fn add_piece(&mut self, alloc: Global, numbers: [u64; 4], bytes: &[u8]) -> Answer {
-        let bytes = ByteText::copy_of(alloc, bytes)?;
+    fn add_piece(&mut self, alloc: Global, call: Call) -> Answer {
+        let [pair, end, after, ends] = call.numbers;
         let piece = Piece {
-            pair: small(numbers[0]),
-            end: end_of(numbers[1]),
-            after: numbers[2],
-            bytes,
-            ends: numbers[3] != 0,
+            pair: word_of(pair),
+            end: end_of(end),
+            after,
+            bytes: ByteText::copy_of(alloc, call.bytes)?,
+            ends: ends != 0,
         };
         told(alloc, self.script.pieces.push(piece))
     }
@@ -95,36 +89,47 @@ impl Scripted {
     /// Adds how much a write takes.
     fn add_room(&mut self, alloc: Global, numbers: [u64; 4]) -> Answer {
         let room = Room {
-            pair: small(numbers[0]),
+            pair: word_of(numbers[0]),
             end: end_of(numbers[1]),
-            most: small(numbers[2]),
+            most: word_of(numbers[2]),
         };
         told(alloc, self.script.rooms.push(room))
     }
 
-    /// Adds a call that fails, or sets the numbers of the script.
-    fn set(&mut self, alloc: Global, words: Words) -> Answer {
-        let call = words.numbers[0];
-        match words.verb {
-            "fault" => told(alloc, self.script.fails.push(call)),
-            "in" => told(alloc, self.unread.push(call)),
-            "out" => told(alloc, self.unwritten.push(call)),
-            _ => {
-                self.script.pairs = small(call);
-                self.script.idles = words.numbers[1];
-                self.script.step = words.numbers[2];
-                told(alloc, ())
-            }
-        }
+    /// Adds a word.
+    fn add_word(&mut self, alloc: Global, bytes: &[u8]) -> Answer {
+        let word = String::from_str(alloc, std::str::from_utf8(bytes).unwrap_or(""))?;
+        self.words.push(word)?;
+        told(alloc, ())
     }
 
-    /// What a line tells; `None` where it is a call.
-    pub fn tell(&mut self, alloc: Global, words: Words, bytes: &[u8]) -> Option<Answer> {
-        match words.verb {
-            "piece" => Some(self.add_piece(alloc, words.numbers, bytes)),
-            "room" => Some(self.add_room(alloc, words.numbers)),
-            "fault" | "in" | "out" | "script" => Some(self.set(alloc, words)),
-            _ => None,
+    /// Sets the numbers of the script, or the rooms.
+    fn set(&mut self, alloc: Global, call: Call) -> Answer {
+        let [a, b, c, d] = call.numbers;
+        match call.verb {
+            RUN => {
+                self.script.pairs = word_of(a);
+                self.script.idles = b;
+                self.script.step = c;
+            }
+            ROOMS => self.rooms = [a as usize, b as usize, c as usize, d as usize],
+            _ => return no_call(alloc),
+        }
+        told(alloc, ())
+    }
+
+    /// Takes what a line tells.
+    pub fn tell(&mut self, alloc: Global, call: Call) -> Answer {
+        let number = call.numbers[0];
+        match call.verb {
+            PIECE => self.add_piece(alloc, call),
+            ROOM => self.add_room(alloc, call.numbers),
+            WORD => self.add_word(alloc, call.bytes),
+            FAULT => told(alloc, self.script.fails.push(number)),
+            IN => told(alloc, self.unread.push(number)),
+            OUT => told(alloc, self.unreported.push(number)),
+            LOST => told(alloc, self.lost.push(number)),
+            _ => self.set(alloc, call),
         }
     }
 
@@ -133,13 +138,20 @@ impl Scripted {
         mem::replace(&mut self.script, quiet(alloc))
     }
 
-    /// The calls at which a source fails, after which there are none.
-    pub fn take_unread(&mut self, alloc: Global) -> CallList {
-        mem::replace(&mut self.unread, ItemList::empty(alloc))
-    }
-
-    /// The calls at which a sink fails, after which there are none.
-    pub fn take_unwritten(&mut self, alloc: Global) -> CallList {
-        mem::replace(&mut self.unwritten, ItemList::empty(alloc))
+    /// The streams, of which the source gives these bytes.
+    pub fn take_streams(&mut self, alloc: Global, bytes: &[u8]) -> Result<Streams, Memory> {
+        let [_, _, report, capture] = self.rooms;
+        // (where memory runs out, little is there yet that is dropped)
+        let bytes = ByteText::copy_of(alloc, bytes)?;
+        let unreported = mem::replace(&mut self.unreported, ItemList::empty(alloc));
+        let report = MemorySink::new(alloc, report, unreported)?;
+        let lost = mem::replace(&mut self.lost, ItemList::empty(alloc));
+        let sink = MemorySink::new(alloc, capture, lost)?;
+        let unread = mem::replace(&mut self.unread, ItemList::empty(alloc));
+        Ok(Streams {
+            input: MemorySource::new(bytes, unread),
+            report,
+            capture: CaptureSink { sink },
+        })
     }
 }

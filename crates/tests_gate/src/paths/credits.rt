@@ -1,9 +1,12 @@
 //! Calls of links, of which each answers the delivery-count and the credit behind it.
 
 use super::words::Words;
+use crate::call::{Answer, no_call, told};
+use crate::verbs::{
+    ARRIVED, ATTACHED, BEGIN, CANCEL, CREDIT, DRAIN, FLOW, GRANTED, NEW, QUOTA, RECOUNTED,
+};
 use links_10::{RecvLink, SendLink};
 use std::alloc::Global;
-use tests_support::{Answer, told};
 
 /// The first frame of a transfer is sent, if there is credit.
 fn begin(link: &mut SendLink) {
@@ -15,12 +18,12 @@ fn begin(link: &mut SendLink) {
 /// A call of a sending link: its delivery-count and its credit.
 pub fn call_sender(alloc: Global, link: &mut SendLink, words: Words) -> Answer {
     match words.verb {
-        "new" => *link = SendLink::new(),
-        "begin" => begin(link),
-        "credit" => link.flow(None, words.first),
-        "flow" => link.flow(Some(words.first), words.second),
-        "drain" => link.drain(),
-        _ => return Ok(None),
+        NEW => *link = SendLink::new(),
+        BEGIN => begin(link),
+        CREDIT => link.flow(None, words.first),
+        FLOW => link.flow(Some(words.first), words.second),
+        DRAIN => link.drain(),
+        _ => return no_call(alloc),
     }
     told(alloc, (link.count(), link.credit()))
 }
@@ -29,14 +32,14 @@ pub fn call_sender(alloc: Global, link: &mut SendLink, words: Words) -> Answer {
 /// credit that is due.
 pub fn call_receiver(alloc: Global, link: &mut RecvLink, words: Words) -> Answer {
     match words.verb {
-        "quota" => *link = RecvLink::new(words.first),
-        "attached" => link.attached(words.first),
-        "granted" => link.granted(words.first),
-        "arrived" => link.arrived(),
-        "recounted" => link.recounted(u64::from(words.first)),
-        "flow" => link.flow(words.first),
-        "cancel" => link.cancel(),
-        _ => return Ok(None),
+        QUOTA => *link = RecvLink::new(words.first),
+        ATTACHED => link.attached(words.first),
+        GRANTED => link.granted(words.first),
+        ARRIVED => link.arrived(),
+        RECOUNTED => link.recounted(u64::from(words.first)),
+        FLOW => link.flow(words.first),
+        CANCEL => link.cancel(),
+        _ => return no_call(alloc),
     }
     told(
         alloc,

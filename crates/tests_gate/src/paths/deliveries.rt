@@ -2,14 +2,18 @@
 
 ghost use Rattle.std.specs.Prelude.{◌≡◌, false};
 
-use super::words::{Words, has_word};
+use super::words::{AGAIN, MORE, MULTIPLE, NO_IMAGE, SETTLED, Words, has_mark};
+use crate::call::{Answer, no_call, short_of, told};
+use crate::verbs::{
+    ACCEPT, ASK, CANCEL, CLOSE, CONSUMER, DELIVER, ECHO, EMPTY, FLOW, GETTER, GLOBAL, GRANT, LAST,
+    LOSE, PREFETCH, REJECT, RELEASE, SETTLE, TELL, TRANSFER, WAIT, WRITTEN,
+};
 use consume_path::{
     Arrival, Content, Deliveries, Frames, NextGrant, NextSettle, Part, RecvKind, Settle,
     TransferFault,
 };
 use open_items::LostItem;
 use std::alloc::Global;
-use tests_support::{Answer, told};
 use wire_base::{ByteText, Memory};
 
 /// A link is attached.
@@ -42,23 +46,23 @@ fn empty(deliveries: &mut Deliveries, link: u32) {
     }
 }
 
-/// The transfer of a line, whose words say what it is: `more`, `settled`.
+/// The transfer of a line, whose marks say what it is: `MORE`, `SETTLED`.
 fn part_of(words: Words) -> Part
     ensures { result.aborted ≡ false }
 {
     Part {
         id: Some(words.second),
         tag_length: Some(4),
-        settled: has_word(words.text, "settled"),
-        more: has_word(words.text, "more"),
+        settled: has_mark(words, SETTLED),
+        more: has_mark(words, MORE),
         aborted: false,
         resume: false,
     }
 }
 
-/// What goes to the client of a delivery, without bytes; nothing where its words say `no-image`.
+/// What goes to the client of a delivery, without bytes; nothing where its words have the mark `NO_IMAGE`.
 fn content(alloc: Global, words: Words) -> Option<Content> {
-    if has_word(words.text, "no-image") {
+    if has_mark(words, NO_IMAGE) {
         return None;
     }
     Some(Content {
@@ -79,7 +83,7 @@ fn transfer(alloc: Global, deliveries: &mut Deliveries, words: Words) -> Result<
 
 /// The transfer that ends its delivery comes, and the delivery is taken at once.
 fn last(alloc: Global, deliveries: &mut Deliveries, words: Words) -> Result<(), Memory> {
-    let again = has_word(words.text, "again");
+    let again = has_mark(words, AGAIN);
     deliveries.last_transfer(words.first, part_of(words), content(alloc, words), again)
 }
 
@@ -120,70 +124,69 @@ fn fault(deliveries: &Deliveries, words: Words) -> Option<TransferFault> {
 
 /// An answer of the client may name this tag.
 fn knows(deliveries: &Deliveries, words: Words) -> bool {
-    deliveries.knows(u64::from(words.first), has_word(words.text, "multiple"))
+    deliveries.knows(u64::from(words.first), has_mark(words, MULTIPLE))
 }
 
-/// A question on the life or on one link.
+/// What can be asked of the life, where a number stands for a tag, a delivery or a place; and of the link
+/// with that number.
 fn ask(alloc: Global, deliveries: &Deliveries, words: Words) -> Answer {
     let link = words.first;
-    match words.verb {
-        "tags" => told(alloc, deliveries.tags()),
-        "knows" => told(alloc, knows(deliveries, words)),
-        "message" => told(alloc, deliveries.message(words.first).is_some()),
-        "line" => told(alloc, line(deliveries, words.first as usize)),
-        "is-closed" => told(alloc, deliveries.is_closed()),
-        "links" => told(alloc, deliveries.links().len()),
-        "has-tag" => told(alloc, deliveries.has_tag(words.text.as_bytes())),
-        "fault" => told(alloc, fault(deliveries, words)),
-        "tag-of" => told(alloc, ByteText::copy_of(alloc, deliveries.tag_of(link))),
-        "payload" => told(alloc, ByteText::copy_of(alloc, deliveries.payload(link))),
-        "count" => told(alloc, deliveries.count_of(link)),
-        "is-covered" => told(alloc, deliveries.covered(link)),
-        "is-empty" => told(alloc, deliveries.drain_done(link)),
-        _ => Ok(None),
-    }
+    let of_life = (
+        deliveries.tags(),
+        knows(deliveries, words),
+        deliveries.message(words.first).is_some(),
+        line(deliveries, words.first as usize),
+        deliveries.is_closed(),
+        deliveries.links().len(),
+        deliveries.has_tag(words.text),
+    );
+    let of_link = (
+        fault(deliveries, words),
+        deliveries.tag_of(link),
+        deliveries.payload(link),
+        deliveries.count_of(link),
+        deliveries.covered(link),
+        deliveries.drain_done(link),
+    );
+    told(alloc, (of_life, of_link))
 }
 
 /// The link of a consumer is attached, whose tag is the text of its words.
 fn consume(alloc: Global, deliveries: &mut Deliveries, words: Words) -> Result<(), Memory> {
-    let tag = ByteText::copy_of(alloc, words.text.as_bytes())?;
+    let tag = ByteText::copy_of(alloc, words.text)?;
     let no_ack = false;
     attach(deliveries, words.first, RecvKind::Consumer { tag, no_ack })
 }
 
-/// What is done, and answers something; or a question.
+/// What is done, and answers something; or what can be asked.
 fn act(alloc: Global, deliveries: &mut Deliveries, words: Words) -> Answer {
     match words.verb {
-        "consumer" => told(alloc, consume(alloc, deliveries, words)),
-        "getter" => told(alloc, attach(deliveries, words.first, RecvKind::Get)),
-        "last" => told(alloc, last(alloc, deliveries, words)),
-        "grant" => told(alloc, grant(deliveries)),
-        "transfer" => told(alloc, transfer(alloc, deliveries, words)),
-        "deliver" => told(alloc, deliver(deliveries)),
-        "settle" => told(alloc, settle(deliveries)),
-        _ => ask(alloc, deliveries, words),
+        CONSUMER => told(alloc, consume(alloc, deliveries, words)),
+        GETTER => told(alloc, attach(deliveries, words.first, RecvKind::Get)),
+        LAST => told(alloc, last(alloc, deliveries, words)),
+        GRANT => told(alloc, grant(deliveries)),
+        TRANSFER => told(alloc, transfer(alloc, deliveries, words)),
+        DELIVER => told(alloc, deliver(deliveries)),
+        SETTLE => told(alloc, settle(deliveries)),
+        ASK => ask(alloc, deliveries, words),
+        _ => no_call(alloc),
     }
-}
-
-/// A number of 16 bits, the greatest where it has more.
-fn small(number: u32) -> u16 {
-    u16::try_from(number).unwrap_or(u16::MAX)
 }
 
 /// A call of a link, or of the life, that answers nothing; whether there is such a one.
 fn change(deliveries: &mut Deliveries, words: Words) -> bool {
     match words.verb {
-        "wait" => wait(deliveries, words.first),
-        "flow" => deliveries.link_flow(words.first, words.second),
-        "echo" => deliveries.link_echo(words.first),
-        "empty" => empty(deliveries, words.first),
-        "cancel" => deliveries.cancel(words.first),
-        "prefetch" => deliveries.set_prefetch(small(words.first)),
-        "global" => deliveries.set_global(small(words.first)),
-        "written" => deliveries.written(u64::from(words.first)),
-        "close" => deliveries.release_all(),
-        "lose" => deliveries.lost_all(),
-        "tell" => deliveries.lines_told(),
+        WAIT => wait(deliveries, words.first),
+        FLOW => deliveries.link_flow(words.first, words.second),
+        ECHO => deliveries.link_echo(words.first),
+        EMPTY => empty(deliveries, words.first),
+        CANCEL => deliveries.cancel(words.first),
+        PREFETCH => deliveries.set_prefetch(short_of(u64::from(words.first))),
+        GLOBAL => deliveries.set_global(short_of(u64::from(words.first))),
+        WRITTEN => deliveries.written(u64::from(words.first)),
+        CLOSE => deliveries.release_all(),
+        LOSE => deliveries.lost_all(),
+        TELL => deliveries.lines_told(),
         _ => return false,
     }
     true
@@ -192,12 +195,12 @@ fn change(deliveries: &mut Deliveries, words: Words) -> bool {
 /// An answer of the client; whether it is one.
 fn answer(deliveries: &mut Deliveries, words: Words) -> bool {
     let settle = match words.verb {
-        "accept" => Settle::Accepted,
-        "reject" => Settle::Rejected,
-        "release" => Settle::Released,
+        ACCEPT => Settle::Accepted,
+        REJECT => Settle::Rejected,
+        RELEASE => Settle::Released,
         _ => return false,
     };
-    let multiple = has_word(words.text, "multiple");
+    let multiple = has_mark(words, MULTIPLE);
     deliveries.answered(u64::from(words.first), multiple, settle);
     true
 }

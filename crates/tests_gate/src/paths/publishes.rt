@@ -2,11 +2,15 @@
 
 ghost use Rattle.std.specs.Prelude.{◌≡◌, ◌<◌, IfOk, OnErr};
 
-use super::words::Words;
+use super::words::{CONFIRMED, MANDATORY, Words, has_mark};
+use crate::call::{Answer, no_call, told};
+use crate::verbs::{
+    ACCEPTED, ADD, ALL_LOST, ASK, ATTACHED, CONFIRM, DRAIN, FLOW, LOST, NEEDED, NOT_FOUND, REFUSED,
+    RELEASED, REMOVE, RETURN, SEND, TOLD,
+};
 use open_items::{Frames, LostItem};
 use publish_path::{Confirm, NextFrame, Outcome, Payload, Publishes, SendLinks};
 use std::alloc::Global;
-use tests_support::{Answer, told};
 use wire_base::{ByteText, Memory};
 
 /// The publishes of a life, and their links.
@@ -34,10 +38,10 @@ fn call_link(links: &mut SendLinks, words: Words) -> bool {
         return false;
     }
     match words.verb {
-        "attached" => links.attached(link),
-        "flow" => links.flow(link, None, words.second),
-        "drain" => links.drain(link),
-        "remove" => links.remove(link),
+        ATTACHED => links.attached(link),
+        FLOW => links.flow(link, None, words.second),
+        DRAIN => links.drain(link),
+        REMOVE => links.remove(link),
         _ => return false,
     }
     true
@@ -143,17 +147,16 @@ fn line(publishes: &Publishes, place: usize) -> Option<LostItem> {
     })
 }
 
-/// An outcome comes of these deliveries; whether it told of any, or `None` where it is no outcome.
-fn settle(publishes: &mut Publishes, words: Words) -> Option<bool>
+/// An outcome comes of these deliveries; whether it told of any.
+fn settle(publishes: &mut Publishes, words: Words) -> bool
     ensures { publishes.new.numbers ≡ publishes.old.numbers }
 {
     let outcome = match words.verb {
-        "accepted" => Outcome::Accepted,
-        "released" => Outcome::Released,
-        "refused" => Outcome::Refused,
-        _ => return None,
+        ACCEPTED => Outcome::Accepted,
+        RELEASED => Outcome::Released,
+        _ => Outcome::Refused,
     };
-    Some(publishes.outcome(words.first, words.second, outcome))
+    publishes.outcome(words.first, words.second, outcome)
 }
 
 /// What is lost, or told; whether there is such a call.
@@ -161,31 +164,31 @@ fn lose(publishes: &mut Publishes, words: Words) -> bool
     ensures { publishes.new.numbers ≡ publishes.old.numbers }
 {
     match words.verb {
-        "lost" => publishes.lost_link(words.first, false),
-        "not-found" => publishes.lost_link(words.first, true),
-        "all-lost" => publishes.lost_all(),
-        "told" => publishes.lines_told(),
+        LOST => publishes.lost_link(words.first, false),
+        NOT_FOUND => publishes.lost_link(words.first, true),
+        ALL_LOST => publishes.lost_all(),
+        TOLD => publishes.lines_told(),
         _ => return false,
     }
     true
 }
 
-/// A question on the publishes and their links.
+/// What can be asked of the publishes, where a number stands for a link, a publish or a place; and of
+/// their links.
 fn ask(alloc: Global, sends: &Sends, words: Words) -> Answer {
     let publishes = &sends.publishes;
     let links = &sends.links;
-    match words.verb {
-        "next" => told(alloc, publishes.next_frame(links, words.first)),
-        "next-id" => told(alloc, publishes.next_id()),
-        "line" => told(alloc, line(publishes, words.first as usize)),
-        "has-rest" => told(alloc, publishes.rest(u64::from(words.first)).is_some()),
-        "held" => told(alloc, publishes.held()),
-        "waits" => told(alloc, publishes.waits(words.first)),
-        "unanswered" => told(alloc, publishes.unanswered(Some(words.first))),
-        "find" => told(alloc, links.find(words.text.as_bytes())),
-        "can-send" => told(alloc, links.can_send(words.first)),
-        _ => Ok(None),
-    }
+    let of_publishes = (
+        publishes.next_frame(links, words.first),
+        publishes.next_id(),
+        line(publishes, words.first as usize),
+        publishes.rest(u64::from(words.first)).is_some(),
+        publishes.held(),
+        publishes.waits(words.first),
+        publishes.unanswered(Some(words.first)),
+    );
+    let of_links = (links.find(words.text), links.can_send(words.first));
+    told(alloc, (of_publishes, of_links))
 }
 
 impl Sends {
@@ -199,39 +202,30 @@ impl Sends {
     }
 
     /// A publish is taken up.
-    fn add(&mut self, alloc: Global, words: Words, confirm: bool, mandatory: bool) -> Answer {
+    fn add(&mut self, alloc: Global, words: Words) -> Answer {
         if self.taken >= 100 {
-            return Ok(None);
+            return no_call(alloc);
         }
-        let payload = payload_of(alloc, words.text.as_bytes())?;
-        let back = frames_back(alloc, mandatory)?;
-        self.taken = take_up(&mut self.publishes, words.first, confirm, payload, back)?;
+        let payload = payload_of(alloc, words.text)?;
+        let back = frames_back(alloc, has_mark(words, MANDATORY))?;
+        let confirmed = has_mark(words, CONFIRMED);
+        self.taken = take_up(&mut self.publishes, words.first, confirmed, payload, back)?;
         told(alloc, self.taken)
     }
 
     /// A call that may change something, or a question.
     pub fn call(&mut self, alloc: Global, words: Words) -> Answer {
-        let most = words.first as usize;
         let (links, publishes) = (&mut self.links, &mut self.publishes);
         match words.verb {
-            "plain" => return self.add(alloc, words, false, false),
-            "confirmed" => return self.add(alloc, words, true, false),
-            "mandatory" => return self.add(alloc, words, true, true),
-            "needed" => return told(
-                alloc,
-                need(alloc, links, words.first, words.text.as_bytes()),
-            ),
-            "send" => return told(alloc, send(publishes, links, most)),
-            "confirm" => return told(alloc, confirm(publishes)),
-            "return" => return send_back(alloc, publishes),
-            _ => {}
+            ADD => self.add(alloc, words),
+            NEEDED => told(alloc, need(alloc, links, words.first, words.text)),
+            SEND => told(alloc, send(publishes, links, words.first as usize)),
+            CONFIRM => told(alloc, confirm(publishes)),
+            RETURN => send_back(alloc, publishes),
+            ASK => ask(alloc, self, words),
+            ACCEPTED | RELEASED | REFUSED => told(alloc, settle(publishes, words)),
+            _ if lose(publishes, words) || call_link(links, words) => told(alloc, ()),
+            _ => no_call(alloc),
         }
-        if let Some(known) = settle(publishes, words) {
-            return told(alloc, known);
-        }
-        if lose(publishes, words) || call_link(links, words) {
-            return told(alloc, ());
-        }
-        ask(alloc, self, words)
     }
 }

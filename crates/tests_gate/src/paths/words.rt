@@ -1,37 +1,51 @@
-//! The words of a call.
+//! The words of a call on what is kept of a session.
 
-use tests_support::{first_number, first_word};
+use crate::call::{Call, word_of};
 
-/// The words of a call behind its subject.
+/// More transfers of the delivery follow.
+pub const MORE: u64 = 1;
+
+/// The delivery is settled.
+pub const SETTLED: u64 = 2;
+
+/// Nothing goes to the client of the delivery.
+pub const NO_IMAGE: u64 = 4;
+
+/// It was delivered before.
+pub const AGAIN: u64 = 8;
+
+/// The answer speaks of all tags up to the one that it names.
+pub const MULTIPLE: u64 = 16;
+
+/// The publish is to be confirmed.
+pub const CONFIRMED: u64 = 32;
+
+/// It is returned where its exchange has no place for it.
+pub const MANDATORY: u64 = 64;
+
+/// The words of a call.
 #[derive(Clone, Copy)]
 pub struct Words<'a> {
-    pub verb: &'a str,
+    pub verb: u64,
     pub first: u32,
     pub second: u32,
-    /// What stands behind the numbers.
-    pub text: &'a str,
+    /// The sum of the marks above that it has.
+    marks: u64,
+    pub text: &'a [u8],
 }
 
-/// The number before the first blank, and what stands behind it.
-fn small_number(words: &str) -> Option<(u32, &str)> {
-    let (number, rest) = first_number(words)?;
-    Some((u32::try_from(number).ok()?, rest))
+/// What a call says: two numbers of 32 bits, and marks.
+pub fn words_of(call: Call) -> Words {
+    Words {
+        verb: call.verb,
+        first: word_of(call.numbers[0]),
+        second: word_of(call.numbers[1]),
+        marks: call.numbers[2],
+        text: call.bytes,
+    }
 }
 
-/// The verb, the numbers and the text that words tell; `None` where a number is missing.
-pub fn words_of(words: &str) -> Option<Words<'_>> {
-    let (verb, rest) = first_word(words);
-    let (first, rest) = small_number(rest)?;
-    let (second, text) = small_number(rest)?;
-    Some(Words {
-        verb,
-        first,
-        second,
-        text,
-    })
-}
-
-/// A word stands in a text.
-pub fn has_word(text: &str, wanted: &str) -> bool {
-    text.split_once(wanted).is_some()
+/// The words have a mark.
+pub fn has_mark(words: Words, mark: u64) -> bool {
+    words.marks & mark != 0
 }
