@@ -8,13 +8,13 @@ VERBS = Path(__file__).resolve().parents[2] / "crates/tests_gate/src/verbs.rt"
 NUMBERS = {name: int(number) for name, number in re.findall(r"pub const (\w+): u64 = (\d+);", VERBS.read_text())}
 
 
-def number_of(word):
+def number_of_word(word):
     return NUMBERS[word.upper().replace("-", "_")]
 
 
 def call(kind, verb, *numbers, data=b""):
     """The line of a call: two words, four numbers, and bytes. Without data they are those of the line before."""
-    words = [number_of(kind), number_of(verb), *numbers, *[0] * (4 - len(numbers))]
+    words = [number_of_word(kind), number_of_word(verb), *numbers, *[0] * (4 - len(numbers))]
     return " ".join([*map(str, words), "=" if data is None else data.hex().upper()])
 
 
