@@ -10,6 +10,8 @@ FAULT = re.compile(r"Err\(At \{ fault: (?P<fault>\w+), at: (?P<at>\d+) \}\)")
 TEXT = r'"[^"\\]*(?:\\.[^"\\]*)*"'
 WRITTEN = rf"Ok\((?:true|false)\), {TEXT}"
 READ_AND_WRITTEN = re.compile(rf"\((?P<read>.*), (?P<written>{WRITTEN})\)", re.S)
+# What is read, and how it is passed over.
+SKIPPED = re.compile(r"(.*), (Ok\(\d+\)|Err\(At \{ fault: \w+, at: \d+ \}\))", re.S)
 # What stands before a value and a message that is written.
 BEFORE = b"before"
 

@@ -3,29 +3,37 @@
 import re
 
 from cases import debug
-from cases.calls_10 import call, number_of, parted, read_of, told_written, written_of
+from cases.calls_10 import SKIPPED, TEXT, call, number_of, parted, read_of, told_written, written_of
 from cases.told_bytes import NoCase, bytes_of, told_bytes
 
-# How many fields are kept as they are spelled, of the performatives that have such.
-KEPT = {"Open": 5, "Begin": 3, "Attach": 11, "Flow": 1}
-SPELLED = re.compile(r'Spelling10\("(?:[^"\\]|\\.)*"\)')
+# The performatives whose properties, their last field, are also read as they are kept.
+WITH_PROPERTIES = ("Open", "Flow")
+SPELLED = re.compile(rf"Spelling10\(({TEXT})\)")
 # What the room of a settlement is filled with before.
 FILLED = 0x5A
 ROOM = 512
 
 
 def calls_of_kept(data, answer):
-    """The calls that read the values which a performative keeps as they are spelled."""
+    """The calls that read the values which a performative keeps as they are spelled, and its properties as they are kept."""
     name = answer.removeprefix("(Ok((").partition("(")[0]
-    return [call("kept", data, k) for k in range(KEPT.get(name, 0))]
+    values = [call("value", debug.text_of(text[1:-1])) for text in SPELLED.findall(parted(answer)[0])]
+    return values + ([call("properties", data)] if name in WITH_PROPERTIES else [])
 
 
-def with_kept(text, kept):
+def kept_value(answer):
+    """The text of a value that fills the bytes by which it is kept."""
+    return read_of(SKIPPED.fullmatch(parted(answer)[0])[1])[0]
+
+
+def with_kept(text, answers):
     """A performative with the values that it keeps in place of their bytes."""
-    values = [answer.removeprefix("Ok(").removesuffix(")") for answer in kept if answer != "false"]
+    count = len(SPELLED.findall(text))
+    values = [kept_value(answer) for answer in answers[:count]]
+    for properties in answers[count:]:
+        if properties != (f"Ok({values[-1]})" if "properties: Some(" in text else "false"):
+            raise ValueError(f"other properties are kept: {text[:200]}")
     rest = iter(values)
-    if len(SPELLED.findall(text)) != len(values):
-        raise ValueError(f"not each value is read: {text[:200]}")
     return SPELLED.sub(lambda _: next(rest), text)
 
 

@@ -1,15 +1,13 @@
 """Cases of values of AMQP 1.0."""
 
-import re
 import struct
 from itertools import groupby
 
 from cases import debug
-from cases.calls_10 import BEFORE, call, fault_of, number_of, parted, read_of, told_written, written_of
+from cases.calls_10 import BEFORE, SKIPPED, call, fault_of, number_of, parted, read_of, told_written, written_of
 from cases.told_bytes import NoCase, bytes_of, told_bytes, told_text
 
 DIGITS = {"Float": 8, "Double": 16, "Decimal32": 8, "Decimal64": 16, "Char": 1}
-SKIPPED = re.compile(r"(.*), (Ok\(\d+\)|Err\(At \{ fault: \w+, at: \d+ \}\))", re.S)
 # What stands before bytes among others, and behind a value there.
 FRONT = b"\x3F\x3F\x3F"
 BEHIND = b"\x40\x3F"

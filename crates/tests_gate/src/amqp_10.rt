@@ -7,7 +7,7 @@
 //! | `message`, bytes | of `read_message`, and what is written of the message | `messages.rt` |
 //! | `content`, bytes | of `read_header` of `content_091` | |
 //! | `perf`, bytes | of `read_perf`, and what is written of the performative | `performatives.rt` |
-//! | `kept N`, bytes | value N that a performative keeps as it is spelled, read; `false` where there is none | |
+//! | `properties`, bytes | those of an open or a flow, which are kept as they are spelled, read; `false` where there are none | |
 //! | `settled CHANNEL FIRST 0`, `settled CHANNEL FIRST 1 LAST` | of `put_settled`, and the room behind the call | |
 //! | `frame LIMIT`, bytes | of `scan_frame10` within a limit, or 512 where that is more, and what is written of the frame | `frames.rt` |
 //! | `headers`, bytes | of `scan_header10` for AMQP and for SASL | |

@@ -45,7 +45,9 @@ use wire_base::{ByteText, Memory};
 
 /// What calls are made on.
 #[derive(Drop)]
-struct Subjects {
+struct Program {
+    /// Those of the last line.
+    bytes: ByteText,
     values: Vec<Value10>,
     amqp_091: Calls091,
     paths: Paths,
@@ -53,16 +55,10 @@ struct Subjects {
     edge: Edge,
 }
 
-/// All of these, and the bytes of the last line.
-#[derive(Drop)]
-struct Program {
-    bytes: ByteText,
-    subjects: Subjects,
-}
-
-impl Subjects {
-    fn new(alloc: Global) -> Subjects {
-        Subjects {
+impl Program {
+    fn new(alloc: Global) -> Program {
+        Program {
+            bytes: ByteText::empty(alloc),
             values: Vec::new(alloc),
             amqp_091: Calls091::new(alloc),
             paths: Paths::new(alloc),
@@ -71,19 +67,6 @@ impl Subjects {
         }
     }
 
-    /// Makes a call.
-    fn call(&mut self, alloc: Global, kind: u64, call: Call) -> Answer {
-        match kind {
-            AMQP_10 => call_10(alloc, &mut self.values, call),
-            AMQP_091 => self.amqp_091.call(alloc, call),
-            SCRIPT => self.scripted.tell(alloc, call),
-            GATE => call_gate(alloc, &mut self.scripted, &mut self.edge, call),
-            _ => self.paths.call(alloc, kind, call),
-        }
-    }
-}
-
-impl Program {
     /// Makes the call that a line tells.
     fn answer(&mut self, alloc: Global, line: &str) -> Answer {
         let (kind, words) = first_number(line);
@@ -97,7 +80,13 @@ impl Program {
             numbers,
             bytes: self.bytes.as_slice(),
         };
-        self.subjects.call(alloc, kind, call)
+        match kind {
+            AMQP_10 => call_10(alloc, &mut self.values, call),
+            AMQP_091 => self.amqp_091.call(alloc, call),
+            SCRIPT => self.scripted.tell(alloc, call),
+            GATE => call_gate(alloc, &mut self.scripted, &mut self.edge, call),
+            _ => self.paths.call(alloc, kind, call),
+        }
     }
 
     /// What is printed for all lines.
@@ -136,10 +125,7 @@ fn know_laws() {
 
 fn main(rt: HostRuntime) -> io::Result<()> {
     know_laws();
-    let mut program = Program {
-        bytes: ByteText::empty(rt.alloc()),
-        subjects: Subjects::new(rt.alloc()),
-    };
+    let mut program = Program::new(rt.alloc());
     let done = answer_lines(&rt, &mut program);
     drop(program);
     done

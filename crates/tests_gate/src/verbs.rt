@@ -124,71 +124,71 @@ pub const IN: u64 = 61;
 
 pub const IS_OPEN: u64 = 62;
 
-pub const KEPT: u64 = 63;
+pub const LAST: u64 = 63;
 
-pub const LAST: u64 = 64;
+pub const LIFE: u64 = 64;
 
-pub const LIFE: u64 = 65;
+pub const LIST: u64 = 65;
 
-pub const LIST: u64 = 66;
+pub const LIST_091: u64 = 66;
 
-pub const LIST_091: u64 = 67;
+pub const LIST_10: u64 = 67;
 
-pub const LIST_10: u64 = 68;
+pub const LIST_OF_TWO: u64 = 68;
 
-pub const LIST_OF_TWO: u64 = 69;
+pub const LOG: u64 = 69;
 
-pub const LOG: u64 = 70;
+pub const LOSE: u64 = 70;
 
-pub const LOSE: u64 = 71;
+pub const LOST: u64 = 71;
 
-pub const LOST: u64 = 72;
+pub const MAP: u64 = 72;
 
-pub const MAP: u64 = 73;
+pub const MEMORY_SINK: u64 = 73;
 
-pub const MEMORY_SINK: u64 = 74;
+pub const MEMORY_SOURCE: u64 = 74;
 
-pub const MEMORY_SOURCE: u64 = 75;
+pub const MESSAGE: u64 = 75;
 
-pub const MESSAGE: u64 = 76;
+pub const NAMES: u64 = 76;
 
-pub const NAMES: u64 = 77;
+pub const NEEDED: u64 = 77;
 
-pub const NEEDED: u64 = 78;
+pub const NEW: u64 = 78;
 
-pub const NEW: u64 = 79;
+pub const NEXT: u64 = 79;
 
-pub const NEXT: u64 = 80;
+pub const NOT_FOUND: u64 = 80;
 
-pub const NOT_FOUND: u64 = 81;
+pub const OK: u64 = 81;
 
-pub const OK: u64 = 82;
+pub const OPENED: u64 = 82;
 
-pub const OPENED: u64 = 83;
+pub const OUT: u64 = 83;
 
-pub const OUT: u64 = 84;
+pub const PACE: u64 = 84;
 
-pub const PACE: u64 = 85;
+pub const PAIRS: u64 = 85;
 
-pub const PAIRS: u64 = 86;
+pub const PAIRS_ACCEPT: u64 = 86;
 
-pub const PAIRS_ACCEPT: u64 = 87;
+pub const PAIRS_BACK: u64 = 87;
 
-pub const PAIRS_BACK: u64 = 88;
+pub const PAIRS_CLOSE: u64 = 88;
 
-pub const PAIRS_CLOSE: u64 = 89;
+pub const PAIRS_FIND: u64 = 89;
 
-pub const PAIRS_FIND: u64 = 90;
+pub const PAIRS_LINK: u64 = 90;
 
-pub const PAIRS_LINK: u64 = 91;
+pub const PERF: u64 = 91;
 
-pub const PERF: u64 = 92;
+pub const PIECE: u64 = 92;
 
-pub const PIECE: u64 = 93;
+pub const PLAY: u64 = 93;
 
-pub const PLAY: u64 = 94;
+pub const PREFETCH: u64 = 94;
 
-pub const PREFETCH: u64 = 95;
+pub const PROPERTIES: u64 = 95;
 
 pub const PROTOCOL: u64 = 96;
 

@@ -1,6 +1,8 @@
 //! Calls about closes and other answers: what is written of them without memory, and their codes
 //! and names.
 
+ghost use Rattle.std.specs.Prelude.{◌≤◌, length};
+
 use super::numbers::number_call;
 use crate::call::{Answer, Call, short_of, told};
 use crate::verbs::{CLOSES, CODES, CONFIRMS, NAMES, OK};
@@ -45,13 +47,21 @@ fn put_confirms(channel: u16, tag: u64, multiple: bool) -> [Put; 2] {
     ]
 }
 
-/// A close of the connection and one of a channel, whose text has at most 255 bytes.
+/// The first of bytes, as many as a text of a close may have.
+fn text_of(bytes: &[u8]) -> &[u8]
+    ensures { length result.now ≤ 255 }
+{
+    let (text, _) = bytes.split_at(bytes.len().min(255));
+    text
+}
+
+/// A close of the connection and one of a channel.
 fn put_closes(call: Call) -> [Put; 2] {
     let channel = short_of(call.numbers[0]);
     let code = short_of(call.numbers[1]);
     let class = short_of(call.numbers[2]);
     let method = short_of(call.numbers[3]);
-    let (text, _) = call.bytes.split_at(call.bytes.len().min(255));
+    let text = text_of(call.bytes);
     let (mut close, mut channel_close) = (ROOM, ROOM);
     let size = put_close(&mut close, code, text, class, method);
     let of_channel = put_channel_close(&mut channel_close, channel, code, text, class, method);

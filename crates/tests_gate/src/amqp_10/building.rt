@@ -19,18 +19,18 @@ use std::alloc::Global;
 use types_10::{Inner, PairList, Value10, ValueList, read_value};
 use wire_base::{ByteText, Memory};
 
-/// The last values, so many of them, in their order; fewer where fewer are there.
-fn last_values(alloc: Global, stack: &mut Vec<Value10>, count: usize) -> Result<ValueList, Memory> {
+/// A list of the last values, so many of them, in their order; fewer where fewer are there.
+fn list_of_last(alloc: Global, stack: &mut Vec<Value10>, count: usize) -> Result<Value10, Memory> {
     let mut list = ValueList::empty(alloc);
     let from = stack.len().saturating_sub(count);
     for value in stack.split_off(from)? {
         list.push(value)?;
     }
-    Ok(list)
+    Ok(Value10::List(list))
 }
 
-/// The last values in pairs, so many of these, in their order.
-fn last_pairs(alloc: Global, stack: &mut Vec<Value10>, count: usize) -> Result<PairList, Memory> {
+/// A map of the last values in pairs, so many of these, in their order.
+fn map_of_last(alloc: Global, stack: &mut Vec<Value10>, count: usize) -> Result<Value10, Memory> {
     let mut list = PairList::empty(alloc);
     let from = stack.len().saturating_sub(count.saturating_mul(2));
     let mut values = stack.split_off(from)?.into_iter();
@@ -39,7 +39,7 @@ fn last_pairs(alloc: Global, stack: &mut Vec<Value10>, count: usize) -> Result<P
         let value = values.next().unwrap_or(Value10::Null);
         list.push((key, value))?;
     }
-    Ok(list)
+    Ok(Value10::Map(list))
 }
 
 /// The last value, described by the one before it.
@@ -65,16 +65,24 @@ fn first_value(alloc: Global, bytes: &[u8]) -> Result<Value10, Memory> {
     }
 }
 
+/// A text in whatever coding.
+fn text_of(alloc: Global, call: Call) -> Result<Value10, Memory> {
+    let text = ByteText::copy_of(alloc, call.bytes)?;
+    match call.verb {
+        STRING => Ok(Value10::String(text)),
+        _ => Ok(Value10::Symbol(text)),
+    }
+}
+
 /// The value that a line tells.
 fn value_of(alloc: Global, stack: &mut Vec<Value10>, call: Call) -> Result<Value10, Memory> {
-    let count = call.numbers[0] as usize;
+    let number = call.numbers[0];
     match call.verb {
-        STRING => Ok(Value10::String(ByteText::copy_of(alloc, call.bytes)?)),
-        SYMBOL => Ok(Value10::Symbol(ByteText::copy_of(alloc, call.bytes)?)),
-        CHAR => Ok(Value10::Char(word_of(call.numbers[0]))),
-        LIST => Ok(Value10::List(last_values(alloc, stack, count)?)),
+        STRING | SYMBOL => text_of(alloc, call),
+        CHAR => Ok(Value10::Char(word_of(number))),
+        LIST => list_of_last(alloc, stack, number as usize),
         ARRAY => Ok(as_array(stack.pop().unwrap_or(Value10::Null))),
-        MAP => Ok(Value10::Map(last_pairs(alloc, stack, count)?)),
+        MAP => map_of_last(alloc, stack, number as usize),
         DESCRIBED => described(alloc, stack),
         _ => first_value(alloc, call.bytes),
     }

@@ -3,16 +3,11 @@
 use super::frames::frame_call;
 use super::values::Written;
 use crate::call::{Answer, Call, short_of, told, word_of};
-use crate::verbs::{KEPT, PERF, SETTLED};
-use performatives_10::{
-    Attach, Perf, PerfFault, Source10, Target10, has_text, put_perf, put_settled, read_perf,
-};
+use crate::verbs::{PERF, PROPERTIES, SETTLED};
+use performatives_10::{Perf, PerfFault, has_text, put_perf, put_settled, read_perf};
 use std::alloc::Global;
 use types_10::Spelling10;
 use wire_base::ByteText;
-
-/// The fields that a performative keeps as they are spelled, in their order.
-type Kept<'a> = [Option<&'a Spelling10>; 11];
 
 /// Writes a performative.
 fn put(alloc: Global, text: &mut ByteText, perf: &Perf) -> Written {
@@ -43,83 +38,28 @@ fn read(alloc: Global, bytes: &[u8]) -> Answer {
     told(alloc, (read, written, text))
 }
 
-fn source_kept(source: &Option<Source10>) -> [Option<&Spelling10>; 5] {
-    match source {
-        Some(source) => [
-            source.dynamic_node_properties.as_ref(),
-            source.filter.as_ref(),
-            source.default_outcome.as_ref(),
-            source.outcomes.as_ref(),
-            source.capabilities.as_ref(),
-        ],
-        None => [None; 5],
-    }
-}
-
-fn target_kept(target: &Option<Target10>) -> [Option<&Spelling10>; 2] {
-    match target {
-        Some(target) => [
-            target.dynamic_node_properties.as_ref(),
-            target.capabilities.as_ref(),
-        ],
-        None => [None; 2],
-    }
-}
-
-fn attach_kept(attach: &Attach) -> Kept<'_> {
-    let source = source_kept(&attach.source);
-    let target = target_kept(&attach.target);
-    [
-        source[0],
-        source[1],
-        source[2],
-        source[3],
-        source[4],
-        target[0],
-        target[1],
-        attach.unsettled.as_ref(),
-        attach.offered_capabilities.as_ref(),
-        attach.desired_capabilities.as_ref(),
-        attach.properties.as_ref(),
-    ]
-}
-
-/// The fields of a performative that it keeps so.
-fn kept_of(perf: &Perf) -> Kept<'_> {
-    let mut kept = [None; 11];
+/// The properties of an open or a flow, which are kept as they are spelled.
+fn properties_of(perf: &Perf) -> Option<&Spelling10> {
     match perf {
-        Perf::Open(open) => {
-            kept[0] = open.outgoing_locales.as_ref();
-            kept[1] = open.incoming_locales.as_ref();
-            kept[2] = open.offered_capabilities.as_ref();
-            kept[3] = open.desired_capabilities.as_ref();
-            kept[4] = open.properties.as_ref();
-        }
-        Perf::Begin(begin) => {
-            kept[0] = begin.offered_capabilities.as_ref();
-            kept[1] = begin.desired_capabilities.as_ref();
-            kept[2] = begin.properties.as_ref();
-        }
-        Perf::Attach(attach) => kept = attach_kept(attach),
-        Perf::Flow(flow) => kept[0] = flow.properties.as_ref(),
-        _ => {}
+        Perf::Open(open) => open.properties.as_ref(),
+        Perf::Flow(flow) => flow.properties.as_ref(),
+        _ => None,
     }
-    kept
 }
 
-/// The value of one of them.
-fn tell_kept(alloc: Global, perf: &Perf, n: u64) -> Answer {
-    match kept_of(perf).get(n as usize) {
-        Some(Some(kept)) => told(alloc, kept.spelled().read(alloc)),
-        _ => told(alloc, false),
+/// Their value.
+fn tell_properties(alloc: Global, perf: &Perf) -> Answer {
+    match properties_of(perf) {
+        Some(kept) => told(alloc, kept.spelled().read(alloc)),
+        None => told(alloc, false),
     }
 }
 
 /// The same of the performative with which bytes begin.
-fn read_kept(alloc: Global, call: Call) -> Answer {
-    match read_perf(alloc, call.bytes)? {
+fn read_properties(alloc: Global, bytes: &[u8]) -> Answer {
+    match read_perf(alloc, bytes)? {
         Ok((perf, _)) => {
-            let answer = tell_kept(alloc, &perf, call.numbers[0]);
+            let answer = tell_properties(alloc, &perf);
             drop(perf);
             answer
         }
@@ -140,7 +80,7 @@ fn settled(alloc: Global, call: Call) -> Answer {
 pub fn perf_call(alloc: Global, call: Call) -> Answer {
     match call.verb {
         PERF => read(alloc, call.bytes),
-        KEPT => read_kept(alloc, call),
+        PROPERTIES => read_properties(alloc, call.bytes),
         SETTLED => settled(alloc, call),
         _ => frame_call(alloc, call),
     }
