@@ -225,24 +225,27 @@ pub(crate) fn {snake(name)}_of(alloc: Global, fields: &SpelledList<'_>) -> Resul
 
 def adder(field):
     what = f"perf.{field.rust}"
-    many = field.need == "optional"
+    maybe = "maybe_" if field.need == "optional" else ""
+    if field.need == "default" and field.kind == "boolean":
+        return f"push_unless_default(&mut fields, {what}, {field.default})?;"
+    if field.kind in COMPOSITE:
+        return f"push_{maybe}{field.kind}(alloc, &mut fields, &{what})?;"
     if field.kind in PLAIN:
-        if field.need == "default" and field.kind == "boolean":
-            return f"fields.boolean_unless({what}, {field.default})?;"
-        return f"fields.{'maybe_' if many else ''}{field.kind}({what})?;"
+        if maybe:
+            return f"fields.push_maybe_{field.kind}({what})?;"
+        return f"fields.push(Value10::{camel(field.kind)}({what}))?;"
     name = "value" if field.built else "kept" if field.kind in KEPT else "string" if field.kind == "address" else field.kind
-    return f"fields.{'maybe_' if many else ''}{name}(alloc, &{what})?;"
+    return f"fields.push_{maybe}{name}(alloc, &{what})?;"
 
 
 def writer_text(name, fields, struct, public):
     lines = "\n".join("    " + adder(field) for field in fields)
     rows = f"{snake(name)}_rows"
     return f"""/// What is written of the fields of {name}.
-{'pub(crate) ' if public else ''}fn {snake(name)}_written(alloc: Global, perf: &{struct}) -> Result<Fields, Memory>
-    ensures {{ IfOk result (λ f. f ≡ all_added no_fields (written {rows}
-        ({snake(name)}_fields perf.now))) }}
+{'pub(crate) ' if public else ''}fn {snake(name)}_written(alloc: Global, perf: &{struct}) -> Result<ValueList, Memory>
+    ensures {{ IfOk result (λ f. f ≡ written {rows} ({snake(name)}_fields perf.now)) }}
 {{
-    let mut fields = Fields::empty(alloc);
+    let mut fields = ValueList::empty(alloc);
 {lines}
     Ok(fields)
 }}"""
@@ -293,8 +296,8 @@ def view_file(types):
 -- A performative as its kind and its fields in order: null for an absent field.
 use Rattle.std.specs.Prelude.{{List, [], ◌∷◌}}
 use Rattle.types_10.specs.Tree.{{Tree}}
+use Rattle.types_10.specs.Fields.{{maybe, a_boolean, a_ubyte, a_ushort, a_uint, a_ulong, a_binary, a_string, a_symbol, a_value}}
 use Rattle.types_10.specs.View.{{value_tree}}
-use Rattle.performatives_10.specs.Fields.{{maybe, a_boolean, a_ubyte, a_ushort, a_uint, a_ulong, a_binary, a_string, a_symbol, a_value}}
 use Rattle.performatives_10.specs.Rows.{{error_code, received_code, accepted_code, rejected_code, released_code, modified_code, source_code, target_code}}
 use Rattle.performatives_10.specs.Composites.{{composite}}
 use Rattle.performatives_10.specs.declared.kind.PerfKind.{{PerfKind}}
@@ -399,7 +402,10 @@ def module_file(module, types):
     rows = ", ".join(f"{snake(n)}_rows" for n in names)
     views = ", ".join(f"{snake(n)}_fields" for n in names)
     structs = ", ".join(sorted([camel(n) for n in names] + ["Perf"]))
-    alloc = "use std::alloc::Global;\n"
+    collected = sorted(set(re.findall(r"\b(push_\w+)\((?:alloc, )?&mut fields", body)))
+    joined = ", ".join(collected)
+    collecting = f"use crate::collecting::{joined if len(collected) == 1 else f'{{{joined}}}'};\n" if collected else ""
+    values = "SpelledList, Value10, ValueList" if "Value10::" in body else "SpelledList, ValueList"
     return f"""//! {GENERATED}
 //!
 //! {HEADS[module]}
@@ -410,14 +416,14 @@ ghost use Rattle.types_10.specs.Tree.{{trees_of}};
 ghost use Rattle.performatives_10.specs.Rows.{{{rows}}};
 ghost use Rattle.performatives_10.specs.View.{{parts_of, {views}}};
 ghost use Rattle.performatives_10.specs.Reading.{{perf_in}};
-ghost use Rattle.performatives_10.specs.Writing.{{written, all_added, no_fields}};
+ghost use Rattle.performatives_10.specs.Writing.{{written}};
 
-use crate::collecting::Fields;
-use crate::fault::PerfFault;
+{collecting}use crate::fault::PerfFault;
 use crate::getting::{{{", ".join(called)}}};
 use crate::kind::PerfKind;
 use crate::performative::{{{structs}}};
-{alloc}use types_10::SpelledList;
+use std::alloc::Global;
+use types_10::{{{values}}};
 use wire_base::{{Memory, Stop}};
 
 {body}

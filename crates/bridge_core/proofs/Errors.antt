@@ -1,8 +1,7 @@
 -- The condition of an error as it stands in a close.
 use Rattle.std.proofs.Common.{◌≡◌, List, [], ◌∷◌, Some, refl}
 use Rattle.types_10.specs.Tree.{Tree, described, list, scalar, symbol, trees_of, ulong}
-use Rattle.performatives_10.specs.Composites.{in_front, trim}
-use Rattle.performatives_10.specs.Fields.{a_string, maybe}
+use Rattle.types_10.specs.Fields.{in_front, trim, a_string, maybe}
 use Rattle.performatives_10.specs.Rows.{error_code}
 use Rattle.performatives_10.specs.View.{error_tree}
 use Rattle.performatives_10.specs.declared.performative.Error10.{Error10}

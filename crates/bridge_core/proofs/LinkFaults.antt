@@ -25,7 +25,7 @@ use Rattle.session_path.specs.Due.{queue_at}
 use Rattle.gate_model.specs.Lives.{life_at}
 use Rattle.close_translate.specs.Conditions.{code_by}
 use Rattle.gate_model.specs.Upstream.{condition_in}
-use Rattle.performatives_10.specs.Fields.{maybe}
+use Rattle.types_10.specs.Fields.{maybe}
 use Rattle.performatives_10.specs.View.{error_tree}
 use Rattle.gate_model.specs.Paths.{arrived_at, content_of, is_again}
 use Rattle.gate_model.specs.Paths.{closed_path, or_no_path, part_in, path_at}

@@ -4,7 +4,7 @@ use Rattle.std.proofs.Common.{length, ◌%◌, ◌^◌}
 use Rattle.std.specs.Prelude.{if◌then◌else◌, is_some}
 use Rattle.std.specs.Option.{option_map, unwrap_or}
 use Rattle.consume_path.specs.declared.receiving.Part.{Part}
-use Rattle.performatives_10.specs.Fields.{a_binary, a_boolean, a_uint, maybe}
+use Rattle.types_10.specs.Fields.{a_binary, a_boolean, a_uint, maybe}
 use Rattle.performatives_10.specs.View.{attach_fields, error_tree, source_tree, target_tree}
 use Rattle.performatives_10.specs.View.{transfer_fields}
 use Rattle.performatives_10.specs.declared.performative.Attach.{Attach}

@@ -6,7 +6,7 @@ ghost use Rattle.std.specs.Option.{option_map};
 ghost use Rattle.gate_model.specs.Paths.{credit_of, heard_as, is_not_found, name_in, outcome_by};
 ghost use Rattle.gate_model.specs.Paths.{part_in};
 ghost use Rattle.gate_model.specs.Upstream.{condition_in};
-ghost use Rattle.performatives_10.specs.Fields.{maybe};
+ghost use Rattle.types_10.specs.Fields.{maybe};
 ghost use Rattle.performatives_10.specs.View.{error_tree};
 ghost use Rattle.gate_model.specs.State.{path_heard};
 ghost use Rattle.machine_10.specs.Parts.{parts_of};

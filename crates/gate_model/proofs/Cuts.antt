@@ -3,7 +3,7 @@ use Rattle.std.proofs.Common.{◌≡◌, ℕ, ◌+◌, ◌<◌, ◌≤◌, Bool,
 use Rattle.std.specs.Int.{to_be_bytes, w64}
 use Rattle.frames_10.specs.Frames.{frame_text}
 use Rattle.frames_10.specs.declared.frame.Kind10.TheVariants.{Amqp}
-use Rattle.performatives_10.specs.Fields.{a_binary, a_boolean, a_uint, absent}
+use Rattle.types_10.specs.Fields.{a_binary, a_boolean, a_uint, absent}
 use Rattle.performatives_10.specs.Writing.{perf_text, perf_tree}
 use Rattle.types_10.specs.Tree.{Trees, described, list, no_trees, scalar, tree, ulong}
 use Rattle.types_10.specs.Writing.{value_text, written_each}

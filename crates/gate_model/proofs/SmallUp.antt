@@ -5,7 +5,7 @@ use Rattle.std.proofs.Common.{length-append}
 use Rattle.consume_path.specs.Offers.{most_bytes}
 use Rattle.frames_10.specs.declared.frame.Kind10.TheVariants.{Amqp, Sasl}
 use Rattle.performatives_10.specs.Closing.{end_text, ending_of, error_by, error_of, last_of, settle_text, settling, state_of}
-use Rattle.performatives_10.specs.Fields.{a_string, a_uint, maybe}
+use Rattle.types_10.specs.Fields.{a_string, a_uint, maybe}
 use Rattle.performatives_10.specs.Conditions.{name_of}
 use Rattle.performatives_10.specs.Rows.{error_code, source_code, target_code}
 use Rattle.performatives_10.specs.View.{error_fields, error_tree, source_fields, source_tree, state_tree, target_fields, target_tree}

@@ -6,11 +6,13 @@ use Rattle.frames_10.specs.declared.frame.Kind10.{Kind10}
 use Rattle.types_10.specs.Measures.{head_len}
 use Rattle.types_10.specs.Tree.{Tree, Trees, array, described, list, mapping, scalar, trees_of}
 use Rattle.types_10.specs.Writing.{list_kind, value_text, written as written_value, written_each}
+use Rattle.types_10.specs.Fields.{in_front, trim, a_binary, a_boolean, a_string, a_symbol, a_ubyte}
+use Rattle.types_10.specs.Fields.{a_uint, a_ulong, a_ushort, absent, is_absent, maybe}
 use Rattle.types_10.proofs.Measures.{whole_len}
-use Rattle.performatives_10.specs.Composites.{composite, in_front, trim}
+use Rattle.performatives_10.specs.Composites.{composite}
 use Rattle.performatives_10.specs.Conditions.{name_of}
-use Rattle.performatives_10.specs.Fields.{Need, Row, a_binary, a_boolean, a_string, a_symbol, a_ubyte, a_uint, a_ulong, a_ushort, absent}
-use Rattle.performatives_10.specs.Fields.{defaults, is_absent, mandatory, maybe, optional}
+use Rattle.performatives_10.specs.Fields.{Need, Row}
+use Rattle.performatives_10.specs.Fields.{defaults, mandatory, optional}
 use Rattle.performatives_10.specs.Reading.{code_of, rows}
 use Rattle.performatives_10.specs.View.{fields_of, kind_of}
 use Rattle.performatives_10.specs.Writing.{is_same_boolean, perf_text, written, written_field}

@@ -7,7 +7,7 @@ use Rattle.std.specs.Prelude.{take, length, map, sum_by, nat_le, ◌++◌, Optio
 use Rattle.std.specs.Int.{to_be_bytes, w64}
 use Rattle.std.specs.Option.{option_map}
 use Rattle.machine_10.specs.Reading.{field, number_at, number_in}
-use Rattle.performatives_10.specs.Fields.{is_absent}
+use Rattle.types_10.specs.Fields.{is_absent}
 use Rattle.performatives_10.specs.Writing.{perf_text}
 use Rattle.performatives_10.specs.declared.performative.Perf.{Perf}
 use Rattle.performatives_10.specs.declared.performative.Perf.TheVariants as perf

@@ -7,7 +7,7 @@ use Rattle.machine_10.specs.Reading.{field, number_at, number_in}
 use Rattle.machine_10.specs.Session.{after_began, after_flow_sent, after_flowed, after_got}
 use Rattle.machine_10.specs.Session.{new_session}
 use Rattle.machine_10.specs.declared.session.TheConstants.{REFILL_AT}
-use Rattle.performatives_10.specs.Fields.{is_absent}
+use Rattle.types_10.specs.Fields.{is_absent}
 use Rattle.types_10.specs.Tree.{Tree, boolean, scalar}
 use Rattle.gate_model.specs.declared.life.SessionState.{SessionState}
 

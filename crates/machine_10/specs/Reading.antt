@@ -9,7 +9,7 @@ use Rattle.frames_10.specs.declared.frame.Kind10.TheVariants as kind
 use Rattle.types_10.specs.Tree.{Scalar, Tree, scalar, list, mapping, array, described, Trees}
 use Rattle.types_10.specs.Tree.{no_trees, tree}
 use Rattle.types_10.specs.Tree as value
-use Rattle.performatives_10.specs.Fields.{absent}
+use Rattle.types_10.specs.Fields.{absent}
 use Rattle.performatives_10.specs.Reading.{perf_at, code_of}
 use Rattle.performatives_10.specs.Reading as perf
 use Rattle.performatives_10.specs.declared.performative.Perf.{Perf}

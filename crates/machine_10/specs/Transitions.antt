@@ -4,7 +4,7 @@ use Rattle.std.specs.Prelude.{ℕ, Bool, true, false, ◌==◌, if◌then◌else
 use Rattle.frames_10.specs.declared.frame.Kind10.{Kind10}
 use Rattle.frames_10.specs.declared.frame.Kind10.TheVariants as kind
 use Rattle.types_10.specs.Tree.{Tree}
-use Rattle.performatives_10.specs.Fields.{maybe}
+use Rattle.types_10.specs.Fields.{maybe}
 use Rattle.performatives_10.specs.View.{error_tree}
 use Rattle.performatives_10.specs.declared.condition.Condition.{Condition}
 use Rattle.performatives_10.specs.declared.condition.Condition.TheVariants as condition

@@ -3,7 +3,7 @@
 ghost use Rattle.std.specs.Prelude.{◌≡◌, IfOk, drop};
 ghost use Rattle.types_10.specs.Tree.{trees_of};
 ghost use Rattle.types_10.specs.View.{value_tree};
-ghost use Rattle.performatives_10.specs.Fields.{maybe, tree_at};
+ghost use Rattle.types_10.specs.Fields.{maybe, tree_at};
 ghost use Rattle.performatives_10.specs.View.{open_fields};
 ghost use Rattle.machine_10.specs.Parts.{parts_of};
 ghost use Rattle.machine_10.specs.Reading.{Empty, Faulty, Whole, read_of, read_at, body_by};

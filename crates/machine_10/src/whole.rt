@@ -1,7 +1,7 @@
 //! A performative and the payload behind it.
 
 ghost use Rattle.std.specs.Prelude.{◌≡◌};
-ghost use Rattle.performatives_10.specs.Fields.{maybe};
+ghost use Rattle.types_10.specs.Fields.{maybe};
 ghost use Rattle.performatives_10.specs.View.{error_tree};
 ghost use Rattle.machine_10.specs.Parts.{parts_of};
 ghost use Rattle.machine_10.specs.Reading.{act_of, field};

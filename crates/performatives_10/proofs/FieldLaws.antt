@@ -3,13 +3,14 @@ use Rattle.std.proofs.Common.{◌≡◌, ◌≢◌, inl, inr, ℕ, ◌+◌, Bool
 use Rattle.std.proofs.Common.{Some, None, Result, Ok, Err, refl, sym, ap, ◌∙◌}
 use Rattle.wire_base.specs.Reading.{◌>>=◌}
 use Rattle.types_10.specs.Tree.{Tree, Trees}
-use Rattle.performatives_10.specs.Fields.{Need, mandatory, optional, defaults, Row, absent}
-use Rattle.performatives_10.specs.Fields.{is_absent, tree_at, typed, filled, field_in, fields_in}
+use Rattle.types_10.specs.Fields.{absent, is_absent, tree_at}
+use Rattle.performatives_10.specs.Fields.{Need, mandatory, optional, defaults, Row}
+use Rattle.performatives_10.specs.Fields.{typed, filled, field_in, fields_in}
 use Rattle.performatives_10.specs.Grammar.{Types, IsFilled, IsField, AreFields, IsFieldFault}
 use Rattle.performatives_10.specs.Grammar.{IsFirstFault}
 use Rattle.performatives_10.specs.declared.fault.PerfFault.{PerfFault}
 use Rattle.performatives_10.specs.declared.fault.PerfFault.TheVariants as fault
-use Rattle.performatives_10.proofs.Trimming.{absent_is}
+use Rattle.types_10.proofs.Trimmed.{absent_is}
 
 -- ---- one field
 

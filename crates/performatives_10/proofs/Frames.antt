@@ -8,9 +8,9 @@ use Rattle.std.proofs.lemmas.List.{length-append}
 use Rattle.types_10.specs.Tree.{scalar, ulong, list, described, Trees, no_trees, tree}
 use Rattle.types_10.specs.Kinds.{kind_byte}
 use Rattle.types_10.specs.Writing.{list_kind, held_content, written_each, value_text}
+use Rattle.types_10.specs.Fields.{a_boolean, a_uint, maybe}
 use Rattle.frames_10.specs.Frames.{text_behind, frame_text}
 use Rattle.frames_10.specs.declared.frame.Kind10.TheVariants.{Amqp}
-use Rattle.performatives_10.specs.Fields.{a_boolean, a_uint, maybe}
 use Rattle.performatives_10.specs.View.{error_tree, state_tree}
 use Rattle.performatives_10.specs.Writing.{perf_text}
 use Rattle.performatives_10.specs.Closing.{head_text, state_of, settle_code, settled_by}

@@ -3,5 +3,4 @@ pub mod Frames
 pub mod PerfLaws
 pub mod Places
 pub mod Scalars
-pub mod Trimming
 pub mod Written

@@ -1,7 +1,7 @@
 -- What stands at a place of a list of values.
 use Rattle.std.proofs.Common.{◌≡◌, ℕ, zero, suc, List, [], ◌∷◌, Option, slice_get, refl, ap, ◌∙◌}
 use Rattle.types_10.specs.Tree.{Tree, trees_of}
-use Rattle.performatives_10.specs.Fields.{maybe, a_value, tree_at}
+use Rattle.types_10.specs.Fields.{maybe, a_value, tree_at}
 
 there : (ts : List Tree) (k : ℕ) → maybe a_value (slice_get ts k) ≡ tree_at (trees_of ts) k
 there [] k = refl

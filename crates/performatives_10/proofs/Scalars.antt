@@ -4,7 +4,8 @@ use Rattle.types_10.specs.Tree.{Tree, scalar, list, mapping, array, described, T
 use Rattle.types_10.specs.Tree as value
 use Rattle.types_10.specs.Spelled.{is_scalar, list_in, is_map, each_is_symbol}
 use Rattle.types_10.specs.Spelled as spelled
-use Rattle.performatives_10.specs.Fields.{Leaf, Need, absent, is_absent, is_symbol, are_symbols, is_multiple}
+use Rattle.types_10.specs.Fields.{absent, is_absent}
+use Rattle.performatives_10.specs.Fields.{Leaf, Need, is_symbol, are_symbols, is_multiple}
 use Rattle.performatives_10.specs.Fields.{leaf_in, field_in, typed}
 use Rattle.performatives_10.specs.Fields as field
 use Rattle.performatives_10.specs.Composites.{ulong_of, list_of}

@@ -1,17 +1,18 @@
 -- What is written of a performative is read back.
-use Rattle.std.proofs.Common.{◌≡◌, ◌≢◌, inl, ℕ, zero, suc, ◌+◌, Bool, true, false, List, [], ◌∷◌}
+use Rattle.std.proofs.Common.{◌≡◌, ◌≢◌, inl, ℕ, suc, ◌+◌, Bool, true, false, List, [], ◌∷◌}
 use Rattle.std.proofs.Common.{◌++◌, length, Option, Some, None, Result, Ok, refl, sym, ap, subst}
 use Rattle.std.proofs.Common.{◌∙◌, arith}
 use Rattle.types_10.specs.Tree.{Scalar, boolean, Tree, scalar, Trees, trees_of}
 use Rattle.types_10.specs.Ranges.{IsRanged}
 use Rattle.types_10.specs.Writing.{HasSpelling}
 use Rattle.types_10.specs.Reading.{value_at}
+use Rattle.types_10.specs.Fields.{tree_at, trim}
 use Rattle.types_10.proofs.Canonical.{written_is_canonical}
 use Rattle.types_10.proofs.ValueLaws.{spelled_is_read}
 use Rattle.types_10.proofs.Within.{canonical_is_spelled}
-use Rattle.performatives_10.specs.Fields.{mandatory, optional, defaults, Row, is_absent, tree_at}
+use Rattle.types_10.proofs.Trimmed.{trimmed_at}
+use Rattle.performatives_10.specs.Fields.{mandatory, optional, defaults, Row}
 use Rattle.performatives_10.specs.Fields.{leaf_in, field_in, fields_in, leaves_in}
-use Rattle.performatives_10.specs.Composites.{in_front, trim}
 use Rattle.performatives_10.specs.Reading.{rows, type_in, read_of, whole, error_in, state_in}
 use Rattle.performatives_10.specs.Reading.{state_read, source_in, target_in, perf_of, behind}
 use Rattle.performatives_10.specs.Reading.{perf_at}
@@ -30,27 +31,6 @@ use Rattle.performatives_10.specs.declared.performative.State.{State}
 use Rattle.performatives_10.specs.declared.performative.State.TheVariants as state
 use Rattle.performatives_10.proofs.FieldLaws.{fields_is}
 use Rattle.performatives_10.proofs.PerfLaws.{listed_is, named, ends_at, value_read}
-use Rattle.performatives_10.proofs.Trimming.{absent_is}
-
--- ---- trimmed lists
-
-front_at : (t : Tree) (us : List Tree) (k : ℕ) → tree_at (trees_of (in_front t us)) k ≡ tree_at (trees_of (t ∷ us)) k
-front_at t [] k = step (is_absent t) refl k
-  where
-    step : (b : Bool) → is_absent t ≡ b → (i : ℕ) → tree_at (trees_of (in_front t [])) i ≡ tree_at (trees_of (t ∷ [])) i
-    step true e zero = rw e (sym (absent_is t e))
-    step true e (suc i) = rw e refl
-    step false e i = rw e refl
-front_at t (u ∷ us) k = refl
-
-behind_at : (t : Tree) (us vs : List Tree) → ((k : ℕ) → tree_at (trees_of us) k ≡ tree_at (trees_of vs) k) → (k : ℕ) → tree_at (trees_of (t ∷ us)) k ≡ tree_at (trees_of (t ∷ vs)) k
-behind_at t us vs h zero = refl
-behind_at t us vs h (suc k) = h k
-
--- nulls at the end are as good as none
-trimmed_at : (ts : List Tree) (k : ℕ) → tree_at (trees_of (trim ts)) k ≡ tree_at (trees_of ts) k
-trimmed_at [] k = refl
-trimmed_at (t ∷ ts) k = front_at t (trim ts) k ∙ behind_at t (trim ts) ts (trimmed_at ts) k
 
 -- ---- fields
 

@@ -6,7 +6,7 @@ use Rattle.std.specs.Prelude.{◌++◌, length, drop, Option, Some, None, option
 use Rattle.frames_10.specs.Frames.{frame_text}
 use Rattle.frames_10.specs.declared.frame.Kind10.TheVariants.{Amqp}
 use Rattle.types_10.specs.Writing.{value_text}
-use Rattle.performatives_10.specs.Fields.{a_uint, maybe}
+use Rattle.types_10.specs.Fields.{a_uint, maybe}
 use Rattle.performatives_10.specs.Rows.{accepted_code, rejected_code, released_code}
 use Rattle.performatives_10.specs.Conditions.{name_of}
 use Rattle.performatives_10.specs.View.{error_tree}

@@ -1,18 +1,8 @@
 -- Composite values (AMQP 1.0 1.4): a list behind the descriptor of its type, which is read as a
 -- ulong. Nulls at the end of the list are left out.
-use Rattle.std.specs.Prelude.{ℕ, if◌then◌else◌, List, [], ◌∷◌, Option, Some, None}
+use Rattle.std.specs.Prelude.{ℕ, List, Option, Some, None}
 use Rattle.types_10.specs.Tree.{Tree, scalar, ulong, list, described, Trees, trees_of}
-use Rattle.performatives_10.specs.Fields.{is_absent}
-
--- a value in front of others, unless both are nothing
-abbrev pub in_front : Tree → List Tree → List Tree
-in_front t [] = if is_absent t then [] else t ∷ []
-in_front t (u ∷ us) = t ∷ u ∷ us
-
--- the values without the nulls at their end
-abbrev pub trim : List Tree → List Tree
-trim [] = []
-trim (t ∷ ts) = in_front t (trim ts)
+use Rattle.types_10.specs.Fields.{trim}
 
 -- the list of these fields behind this descriptor
 abbrev pub composite : ℕ → List Tree → Tree

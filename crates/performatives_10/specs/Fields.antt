@@ -1,10 +1,12 @@
 -- Fields of composite types (AMQP 1.0 1.4): what a row of a table says of a field, and what is read
--- of one. A field past the end of the list is null, and null is absent.
-use Rattle.std.specs.Prelude.{ℕ, zero, suc, ◌+◌, Bool, true, false, if◌then◌else◌, List, [], ◌∷◌}
+-- of one.
+use Rattle.std.specs.Prelude.{ℕ, ◌+◌, Bool, true, false, if◌then◌else◌, List, [], ◌∷◌}
 use Rattle.std.specs.Prelude.{Option, Some, None, Ok, Err, Result}
 use Rattle.wire_base.specs.Reading.{◌>>=◌}
 use Rattle.types_10.specs.Tree.{Scalar, Tree, scalar, list, described, Trees, no_trees, tree}
 use Rattle.types_10.specs.Tree as value
+use Rattle.types_10.specs.Fields.{a_boolean, a_ubyte, a_ushort, a_uint, a_ulong, a_binary, a_string}
+use Rattle.types_10.specs.Fields.{a_symbol, absent, tree_at, is_absent}
 use Rattle.performatives_10.specs.declared.fault.PerfFault.{PerfFault}
 use Rattle.performatives_10.specs.declared.fault.PerfFault.TheVariants as fault
 
@@ -52,58 +54,7 @@ may t = (t, optional)
 abbrev pub has : FieldType → Scalar → Row
 has t s = (t, defaults s)
 
--- ---- values of fields
-
-abbrev pub a_boolean : Bool → Tree
-a_boolean b = scalar (value.boolean b)
-
-abbrev pub a_ubyte : ℕ → Tree
-a_ubyte n = scalar (value.ubyte n)
-
-abbrev pub a_ushort : ℕ → Tree
-a_ushort n = scalar (value.ushort n)
-
-abbrev pub a_uint : ℕ → Tree
-a_uint n = scalar (value.uint n)
-
-abbrev pub a_ulong : ℕ → Tree
-a_ulong n = scalar (value.ulong n)
-
-abbrev pub a_binary : List ℕ → Tree
-a_binary s = scalar (value.binary s)
-
-abbrev pub a_string : List ℕ → Tree
-a_string s = scalar (value.string s)
-
-abbrev pub a_symbol : List ℕ → Tree
-a_symbol s = scalar (value.symbol s)
-
-abbrev pub a_value : Tree → Tree
-a_value t = t
-
-abbrev pub absent : Tree
-absent = scalar value.null
-
--- what is there, or absent
-abbrev pub maybe : {A : Type 0} → (A → Tree) → Option A → Tree
-maybe f None = absent
-maybe f (Some x) = f x
-
 -- ---- reading
-
--- the value at a place; past the end it is absent
-abbrev pub tree_at : Trees → ℕ → Tree
-tree_at no_trees k = absent
-tree_at (tree t ts) zero = t
-tree_at (tree t ts) (suc k) = tree_at ts k
-
-abbrev pub is_null : Scalar → Bool
-is_null value.null = true
-is_null s = false
-
-abbrev pub is_absent : Tree → Bool
-is_absent (scalar s) = is_null s
-is_absent t = false
 
 abbrev pub is_symbol : Tree → Bool
 is_symbol (scalar (value.symbol s)) = true

@@ -6,8 +6,8 @@ use Rattle.wire_base.specs.Spelling.{StandsAt}
 use Rattle.types_10.specs.Tree.{Tree, scalar, ulong, list, described, Trees}
 use Rattle.types_10.specs.Grammar.{IsValue}
 use Rattle.types_10.specs.Faults.{IsFaultAt}
+use Rattle.types_10.specs.Fields.{absent, tree_at}
 use Rattle.performatives_10.specs.Fields.{Need, mandatory, optional, defaults, FieldType, Row}
-use Rattle.performatives_10.specs.Fields.{absent, tree_at}
 use Rattle.performatives_10.specs.Reading.{Parts, code_of, rows, type_in}
 use Rattle.performatives_10.specs.View.{kind_of, fields_of, parts_of}
 use Rattle.performatives_10.specs.declared.fault.PerfFault.{PerfFault}

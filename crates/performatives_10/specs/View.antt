@@ -3,9 +3,9 @@
 -- A performative as its kind and its fields in order: null for an absent field.
 use Rattle.std.specs.Prelude.{List, [], ◌∷◌}
 use Rattle.types_10.specs.Tree.{Tree}
+use Rattle.types_10.specs.Fields.{maybe, a_boolean, a_ubyte, a_ushort, a_uint, a_ulong, a_binary}
+use Rattle.types_10.specs.Fields.{a_string, a_symbol, a_value}
 use Rattle.types_10.specs.View.{value_tree}
-use Rattle.performatives_10.specs.Fields.{maybe, a_boolean, a_ubyte, a_ushort, a_uint, a_ulong}
-use Rattle.performatives_10.specs.Fields.{a_binary, a_string, a_symbol, a_value}
 use Rattle.performatives_10.specs.Rows.{error_code, received_code, accepted_code, rejected_code}
 use Rattle.performatives_10.specs.Rows.{released_code, modified_code, source_code, target_code}
 use Rattle.performatives_10.specs.Composites.{composite}

@@ -1,17 +1,15 @@
 -- What is written of a performative (AMQP 1.0 1.4, 2.7): null for an absent field and for a boolean
 -- that equals its default, and nulls at the end are left out. Any other field with a default is
 -- written.
-use Rattle.std.specs.Prelude.{ℕ, zero, suc, ◌+◌, Bool, true, false, if◌then◌else◌, List, [], ◌∷◌}
-use Rattle.std.specs.Prelude.{◌++◌}
+use Rattle.std.specs.Prelude.{ℕ, Bool, true, false, if◌then◌else◌, List, [], ◌∷◌}
 use Rattle.types_10.specs.Tree.{Scalar, boolean, Tree, scalar}
 use Rattle.types_10.specs.Writing.{value_text}
-use Rattle.performatives_10.specs.Fields.{Need, mandatory, optional, defaults, Row, absent}
-use Rattle.performatives_10.specs.Fields.{is_absent}
+use Rattle.types_10.specs.Fields.{absent}
+use Rattle.performatives_10.specs.Fields.{Need, mandatory, optional, defaults, Row}
 use Rattle.performatives_10.specs.Composites.{composite}
 use Rattle.performatives_10.specs.Reading.{code_of, rows}
 use Rattle.performatives_10.specs.View.{kind_of, fields_of}
 use Rattle.performatives_10.specs.declared.performative.Perf.{Perf}
-use Rattle.performatives_10.specs.declared.collecting.Fields.{Fields}
 
 -- a boolean, and the same boolean
 abbrev pub is_same_boolean : Scalar → Tree → Bool
@@ -36,23 +34,3 @@ perf_tree p = composite (code_of (kind_of p)) (written (rows (kind_of p)) (field
 
 abbrev pub perf_text : Perf → List ℕ
 perf_text p = value_text (perf_tree p)
-
--- ---- collecting fields one by one
-
--- so many nulls
-abbrev pub nulls : ℕ → List Tree
-nulls zero = []
-nulls (suc n) = absent ∷ nulls n
-
--- fields, of which nulls at the end are counted alone, and one more field
-unfoldable pub added : Fields → Tree → Fields
-added f t =
-    if is_absent t then record { list = f.list; nulls = f.nulls + 1 }
-    else record { list = f.list ++ nulls f.nulls ++ t ∷ []; nulls = 0 }
-
-unfoldable pub no_fields : Fields
-no_fields = record { list = []; nulls = 0 }
-
-abbrev pub all_added : Fields → List Tree → Fields
-all_added f [] = f
-all_added f (x ∷ xs) = all_added (added f x) xs

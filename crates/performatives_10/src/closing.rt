@@ -5,7 +5,7 @@ ghost use Rattle.std.specs.Prelude.{◌≡◌, ℕ, ◌+◌, ◌≤◌, ◌<◌,
 ghost use Rattle.std.specs.Prelude.{Option, Some};
 ghost use Rattle.std.specs.Int.{w16, w32, to_be_bytes};
 ghost use Rattle.types_10.specs.Writing.{value_text};
-ghost use Rattle.performatives_10.specs.Fields.{a_uint, maybe};
+ghost use Rattle.types_10.specs.Fields.{a_uint, maybe};
 ghost use Rattle.performatives_10.specs.Closing.{
   last_of,
   head_text,

@@ -8,9 +8,9 @@ ghost use Rattle.types_10.specs.Tree.{trees_of};
 ghost use Rattle.performatives_10.specs.Rows.{open_rows, close_rows};
 ghost use Rattle.performatives_10.specs.View.{parts_of, open_fields, close_fields};
 ghost use Rattle.performatives_10.specs.Reading.{perf_in};
-ghost use Rattle.performatives_10.specs.Writing.{written, all_added, no_fields};
+ghost use Rattle.performatives_10.specs.Writing.{written};
 
-use crate::collecting::Fields;
+use crate::collecting::push_maybe_error;
 use crate::fault::PerfFault;
 use crate::getting::{
     both, error_at, mapping_at, needed_string, string_at, symbols_at, uint_at, uint_or, ushort_or,
@@ -18,7 +18,7 @@ use crate::getting::{
 use crate::kind::PerfKind;
 use crate::performative::{Close, Open, Perf};
 use std::alloc::Global;
-use types_10::SpelledList;
+use types_10::{SpelledList, Value10, ValueList};
 use wire_base::{Memory, Stop};
 
 /// The fields of open.
@@ -60,21 +60,20 @@ pub(crate) fn open_of(alloc: Global, fields: &SpelledList<'_>) -> Result<Perf, S
 }
 
 /// What is written of the fields of open.
-pub(crate) fn open_written(alloc: Global, perf: &Open) -> Result<Fields, Memory>
-    ensures { IfOk result (λ f. f ≡ all_added no_fields (written open_rows
-        (open_fields perf.now))) }
+pub(crate) fn open_written(alloc: Global, perf: &Open) -> Result<ValueList, Memory>
+    ensures { IfOk result (λ f. f ≡ written open_rows (open_fields perf.now)) }
 {
-    let mut fields = Fields::empty(alloc);
-    fields.string(alloc, &perf.container_id)?;
-    fields.maybe_string(alloc, &perf.hostname)?;
-    fields.uint(perf.max_frame_size)?;
-    fields.ushort(perf.channel_max)?;
-    fields.maybe_uint(perf.idle_time_out)?;
-    fields.maybe_kept(alloc, &perf.outgoing_locales)?;
-    fields.maybe_kept(alloc, &perf.incoming_locales)?;
-    fields.maybe_kept(alloc, &perf.offered_capabilities)?;
-    fields.maybe_kept(alloc, &perf.desired_capabilities)?;
-    fields.maybe_kept(alloc, &perf.properties)?;
+    let mut fields = ValueList::empty(alloc);
+    fields.push_string(alloc, &perf.container_id)?;
+    fields.push_maybe_string(alloc, &perf.hostname)?;
+    fields.push(Value10::Uint(perf.max_frame_size))?;
+    fields.push(Value10::Ushort(perf.channel_max))?;
+    fields.push_maybe_uint(perf.idle_time_out)?;
+    fields.push_maybe_kept(alloc, &perf.outgoing_locales)?;
+    fields.push_maybe_kept(alloc, &perf.incoming_locales)?;
+    fields.push_maybe_kept(alloc, &perf.offered_capabilities)?;
+    fields.push_maybe_kept(alloc, &perf.desired_capabilities)?;
+    fields.push_maybe_kept(alloc, &perf.properties)?;
     Ok(fields)
 }
 
@@ -87,11 +86,10 @@ pub(crate) fn close_of(alloc: Global, fields: &SpelledList<'_>) -> Result<Perf, 
 }
 
 /// What is written of the fields of close.
-pub(crate) fn close_written(alloc: Global, perf: &Close) -> Result<Fields, Memory>
-    ensures { IfOk result (λ f. f ≡ all_added no_fields (written close_rows
-        (close_fields perf.now))) }
+pub(crate) fn close_written(alloc: Global, perf: &Close) -> Result<ValueList, Memory>
+    ensures { IfOk result (λ f. f ≡ written close_rows (close_fields perf.now)) }
 {
-    let mut fields = Fields::empty(alloc);
-    fields.maybe_error(alloc, &perf.error)?;
+    let mut fields = ValueList::empty(alloc);
+    push_maybe_error(alloc, &mut fields, &perf.error)?;
     Ok(fields)
 }

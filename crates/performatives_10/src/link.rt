@@ -10,9 +10,11 @@ ghost use Rattle.performatives_10.specs.Rows.{disposition_rows, detach_rows};
 ghost use Rattle.performatives_10.specs.View.{parts_of, attach_fields, flow_fields};
 ghost use Rattle.performatives_10.specs.View.{transfer_fields, disposition_fields, detach_fields};
 ghost use Rattle.performatives_10.specs.Reading.{perf_in};
-ghost use Rattle.performatives_10.specs.Writing.{written, all_added, no_fields};
+ghost use Rattle.performatives_10.specs.Writing.{written};
 
-use crate::collecting::Fields;
+use crate::collecting::{
+    push_maybe_error, push_maybe_source, push_maybe_state, push_maybe_target, push_unless_default,
+};
 use crate::fault::PerfFault;
 use crate::getting::{
     binary_at, boolean_at, boolean_or, both, error_at, mapping_at, needed_boolean, needed_string,
@@ -21,7 +23,7 @@ use crate::getting::{
 use crate::kind::PerfKind;
 use crate::performative::{Attach, Detach, Disposition, Flow, Perf, Transfer};
 use std::alloc::Global;
-use types_10::SpelledList;
+use types_10::{SpelledList, Value10, ValueList};
 use wire_base::{Memory, Stop};
 
 /// The fields of attach.
@@ -65,25 +67,24 @@ pub(crate) fn attach_of(alloc: Global, fields: &SpelledList<'_>) -> Result<Perf,
 }
 
 /// What is written of the fields of attach.
-pub(crate) fn attach_written(alloc: Global, perf: &Attach) -> Result<Fields, Memory>
-    ensures { IfOk result (λ f. f ≡ all_added no_fields (written attach_rows
-        (attach_fields perf.now))) }
+pub(crate) fn attach_written(alloc: Global, perf: &Attach) -> Result<ValueList, Memory>
+    ensures { IfOk result (λ f. f ≡ written attach_rows (attach_fields perf.now)) }
 {
-    let mut fields = Fields::empty(alloc);
-    fields.string(alloc, &perf.name)?;
-    fields.uint(perf.handle)?;
-    fields.boolean(perf.role)?;
-    fields.ubyte(perf.snd_settle_mode)?;
-    fields.ubyte(perf.rcv_settle_mode)?;
-    fields.maybe_source(alloc, &perf.source)?;
-    fields.maybe_target(alloc, &perf.target)?;
-    fields.maybe_kept(alloc, &perf.unsettled)?;
-    fields.boolean_unless(perf.incomplete_unsettled, false)?;
-    fields.maybe_uint(perf.initial_delivery_count)?;
-    fields.maybe_ulong(perf.max_message_size)?;
-    fields.maybe_kept(alloc, &perf.offered_capabilities)?;
-    fields.maybe_kept(alloc, &perf.desired_capabilities)?;
-    fields.maybe_kept(alloc, &perf.properties)?;
+    let mut fields = ValueList::empty(alloc);
+    fields.push_string(alloc, &perf.name)?;
+    fields.push(Value10::Uint(perf.handle))?;
+    fields.push(Value10::Boolean(perf.role))?;
+    fields.push(Value10::Ubyte(perf.snd_settle_mode))?;
+    fields.push(Value10::Ubyte(perf.rcv_settle_mode))?;
+    push_maybe_source(alloc, &mut fields, &perf.source)?;
+    push_maybe_target(alloc, &mut fields, &perf.target)?;
+    fields.push_maybe_kept(alloc, &perf.unsettled)?;
+    push_unless_default(&mut fields, perf.incomplete_unsettled, false)?;
+    fields.push_maybe_uint(perf.initial_delivery_count)?;
+    fields.push_maybe_ulong(perf.max_message_size)?;
+    fields.push_maybe_kept(alloc, &perf.offered_capabilities)?;
+    fields.push_maybe_kept(alloc, &perf.desired_capabilities)?;
+    fields.push_maybe_kept(alloc, &perf.properties)?;
     Ok(fields)
 }
 
@@ -118,22 +119,21 @@ pub(crate) fn flow_of(alloc: Global, fields: &SpelledList<'_>) -> Result<Perf, S
 }
 
 /// What is written of the fields of flow.
-pub(crate) fn flow_written(alloc: Global, perf: &Flow) -> Result<Fields, Memory>
-    ensures { IfOk result (λ f. f ≡ all_added no_fields (written flow_rows
-        (flow_fields perf.now))) }
+pub(crate) fn flow_written(alloc: Global, perf: &Flow) -> Result<ValueList, Memory>
+    ensures { IfOk result (λ f. f ≡ written flow_rows (flow_fields perf.now)) }
 {
-    let mut fields = Fields::empty(alloc);
-    fields.maybe_uint(perf.next_incoming_id)?;
-    fields.uint(perf.incoming_window)?;
-    fields.uint(perf.next_outgoing_id)?;
-    fields.uint(perf.outgoing_window)?;
-    fields.maybe_uint(perf.handle)?;
-    fields.maybe_uint(perf.delivery_count)?;
-    fields.maybe_uint(perf.link_credit)?;
-    fields.maybe_uint(perf.available)?;
-    fields.boolean_unless(perf.drain, false)?;
-    fields.boolean_unless(perf.echo, false)?;
-    fields.maybe_kept(alloc, &perf.properties)?;
+    let mut fields = ValueList::empty(alloc);
+    fields.push_maybe_uint(perf.next_incoming_id)?;
+    fields.push(Value10::Uint(perf.incoming_window))?;
+    fields.push(Value10::Uint(perf.next_outgoing_id))?;
+    fields.push(Value10::Uint(perf.outgoing_window))?;
+    fields.push_maybe_uint(perf.handle)?;
+    fields.push_maybe_uint(perf.delivery_count)?;
+    fields.push_maybe_uint(perf.link_credit)?;
+    fields.push_maybe_uint(perf.available)?;
+    push_unless_default(&mut fields, perf.drain, false)?;
+    push_unless_default(&mut fields, perf.echo, false)?;
+    fields.push_maybe_kept(alloc, &perf.properties)?;
     Ok(fields)
 }
 
@@ -169,22 +169,21 @@ pub(crate) fn transfer_of(alloc: Global, fields: &SpelledList<'_>) -> Result<Per
 }
 
 /// What is written of the fields of transfer.
-pub(crate) fn transfer_written(alloc: Global, perf: &Transfer) -> Result<Fields, Memory>
-    ensures { IfOk result (λ f. f ≡ all_added no_fields (written transfer_rows
-        (transfer_fields perf.now))) }
+pub(crate) fn transfer_written(alloc: Global, perf: &Transfer) -> Result<ValueList, Memory>
+    ensures { IfOk result (λ f. f ≡ written transfer_rows (transfer_fields perf.now)) }
 {
-    let mut fields = Fields::empty(alloc);
-    fields.uint(perf.handle)?;
-    fields.maybe_uint(perf.delivery_id)?;
-    fields.maybe_binary(alloc, &perf.delivery_tag)?;
-    fields.maybe_uint(perf.message_format)?;
-    fields.maybe_boolean(perf.settled)?;
-    fields.boolean_unless(perf.more, false)?;
-    fields.maybe_ubyte(perf.rcv_settle_mode)?;
-    fields.maybe_state(alloc, &perf.state)?;
-    fields.boolean_unless(perf.resume, false)?;
-    fields.boolean_unless(perf.aborted, false)?;
-    fields.boolean_unless(perf.batchable, false)?;
+    let mut fields = ValueList::empty(alloc);
+    fields.push(Value10::Uint(perf.handle))?;
+    fields.push_maybe_uint(perf.delivery_id)?;
+    fields.push_maybe_binary(alloc, &perf.delivery_tag)?;
+    fields.push_maybe_uint(perf.message_format)?;
+    fields.push_maybe_boolean(perf.settled)?;
+    push_unless_default(&mut fields, perf.more, false)?;
+    fields.push_maybe_ubyte(perf.rcv_settle_mode)?;
+    push_maybe_state(alloc, &mut fields, &perf.state)?;
+    push_unless_default(&mut fields, perf.resume, false)?;
+    push_unless_default(&mut fields, perf.aborted, false)?;
+    push_unless_default(&mut fields, perf.batchable, false)?;
     Ok(fields)
 }
 
@@ -212,17 +211,16 @@ pub(crate) fn disposition_of(
 }
 
 /// What is written of the fields of disposition.
-pub(crate) fn disposition_written(alloc: Global, perf: &Disposition) -> Result<Fields, Memory>
-    ensures { IfOk result (λ f. f ≡ all_added no_fields (written disposition_rows
-        (disposition_fields perf.now))) }
+pub(crate) fn disposition_written(alloc: Global, perf: &Disposition) -> Result<ValueList, Memory>
+    ensures { IfOk result (λ f. f ≡ written disposition_rows (disposition_fields perf.now)) }
 {
-    let mut fields = Fields::empty(alloc);
-    fields.boolean(perf.role)?;
-    fields.uint(perf.first)?;
-    fields.maybe_uint(perf.last)?;
-    fields.boolean_unless(perf.settled, false)?;
-    fields.maybe_state(alloc, &perf.state)?;
-    fields.boolean_unless(perf.batchable, false)?;
+    let mut fields = ValueList::empty(alloc);
+    fields.push(Value10::Boolean(perf.role))?;
+    fields.push(Value10::Uint(perf.first))?;
+    fields.push_maybe_uint(perf.last)?;
+    push_unless_default(&mut fields, perf.settled, false)?;
+    push_maybe_state(alloc, &mut fields, &perf.state)?;
+    push_unless_default(&mut fields, perf.batchable, false)?;
     Ok(fields)
 }
 
@@ -241,13 +239,12 @@ pub(crate) fn detach_of(alloc: Global, fields: &SpelledList<'_>) -> Result<Perf,
 }
 
 /// What is written of the fields of detach.
-pub(crate) fn detach_written(alloc: Global, perf: &Detach) -> Result<Fields, Memory>
-    ensures { IfOk result (λ f. f ≡ all_added no_fields (written detach_rows
-        (detach_fields perf.now))) }
+pub(crate) fn detach_written(alloc: Global, perf: &Detach) -> Result<ValueList, Memory>
+    ensures { IfOk result (λ f. f ≡ written detach_rows (detach_fields perf.now)) }
 {
-    let mut fields = Fields::empty(alloc);
-    fields.uint(perf.handle)?;
-    fields.boolean_unless(perf.closed, false)?;
-    fields.maybe_error(alloc, &perf.error)?;
+    let mut fields = ValueList::empty(alloc);
+    fields.push(Value10::Uint(perf.handle))?;
+    push_unless_default(&mut fields, perf.closed, false)?;
+    push_maybe_error(alloc, &mut fields, &perf.error)?;
     Ok(fields)
 }

@@ -12,9 +12,8 @@ ghost use Rattle.performatives_10.specs.View.{parts_of, sasl_mechanisms_fields, 
 ghost use Rattle.performatives_10.specs.View.{sasl_challenge_fields, sasl_response_fields};
 ghost use Rattle.performatives_10.specs.View.{sasl_outcome_fields};
 ghost use Rattle.performatives_10.specs.Reading.{perf_in};
-ghost use Rattle.performatives_10.specs.Writing.{written, all_added, no_fields};
+ghost use Rattle.performatives_10.specs.Writing.{written};
 
-use crate::collecting::Fields;
 use crate::fault::PerfFault;
 use crate::getting::{
     binary_at, both, needed_binary, needed_symbol, needed_symbols, needed_ubyte, string_at,
@@ -24,7 +23,7 @@ use crate::performative::{
     Perf, SaslChallenge, SaslInit, SaslMechanisms, SaslOutcome, SaslResponse,
 };
 use std::alloc::Global;
-use types_10::SpelledList;
+use types_10::{SpelledList, Value10, ValueList};
 use wire_base::{Memory, Stop};
 
 /// The fields of sasl-mechanisms.
@@ -42,12 +41,11 @@ pub(crate) fn sasl_mechanisms_of(
 pub(crate) fn sasl_mechanisms_written(
     alloc: Global,
     perf: &SaslMechanisms,
-) -> Result<Fields, Memory>
-    ensures { IfOk result (λ f. f ≡ all_added no_fields (written sasl_mechanisms_rows
-        (sasl_mechanisms_fields perf.now))) }
+) -> Result<ValueList, Memory>
+    ensures { IfOk result (λ f. f ≡ written sasl_mechanisms_rows (sasl_mechanisms_fields perf.now)) }
 {
-    let mut fields = Fields::empty(alloc);
-    fields.value(alloc, &perf.mechanisms)?;
+    let mut fields = ValueList::empty(alloc);
+    fields.push_value(alloc, &perf.mechanisms)?;
     Ok(fields)
 }
 
@@ -67,14 +65,13 @@ pub(crate) fn sasl_init_of(alloc: Global, fields: &SpelledList<'_>) -> Result<Pe
 }
 
 /// What is written of the fields of sasl-init.
-pub(crate) fn sasl_init_written(alloc: Global, perf: &SaslInit) -> Result<Fields, Memory>
-    ensures { IfOk result (λ f. f ≡ all_added no_fields (written sasl_init_rows
-        (sasl_init_fields perf.now))) }
+pub(crate) fn sasl_init_written(alloc: Global, perf: &SaslInit) -> Result<ValueList, Memory>
+    ensures { IfOk result (λ f. f ≡ written sasl_init_rows (sasl_init_fields perf.now)) }
 {
-    let mut fields = Fields::empty(alloc);
-    fields.symbol(alloc, &perf.mechanism)?;
-    fields.maybe_binary(alloc, &perf.initial_response)?;
-    fields.maybe_string(alloc, &perf.hostname)?;
+    let mut fields = ValueList::empty(alloc);
+    fields.push_symbol(alloc, &perf.mechanism)?;
+    fields.push_maybe_binary(alloc, &perf.initial_response)?;
+    fields.push_maybe_string(alloc, &perf.hostname)?;
     Ok(fields)
 }
 
@@ -90,12 +87,14 @@ pub(crate) fn sasl_challenge_of(
 }
 
 /// What is written of the fields of sasl-challenge.
-pub(crate) fn sasl_challenge_written(alloc: Global, perf: &SaslChallenge) -> Result<Fields, Memory>
-    ensures { IfOk result (λ f. f ≡ all_added no_fields (written sasl_challenge_rows
-        (sasl_challenge_fields perf.now))) }
+pub(crate) fn sasl_challenge_written(
+    alloc: Global,
+    perf: &SaslChallenge,
+) -> Result<ValueList, Memory>
+    ensures { IfOk result (λ f. f ≡ written sasl_challenge_rows (sasl_challenge_fields perf.now)) }
 {
-    let mut fields = Fields::empty(alloc);
-    fields.binary(alloc, &perf.challenge)?;
+    let mut fields = ValueList::empty(alloc);
+    fields.push_binary(alloc, &perf.challenge)?;
     Ok(fields)
 }
 
@@ -111,12 +110,11 @@ pub(crate) fn sasl_response_of(
 }
 
 /// What is written of the fields of sasl-response.
-pub(crate) fn sasl_response_written(alloc: Global, perf: &SaslResponse) -> Result<Fields, Memory>
-    ensures { IfOk result (λ f. f ≡ all_added no_fields (written sasl_response_rows
-        (sasl_response_fields perf.now))) }
+pub(crate) fn sasl_response_written(alloc: Global, perf: &SaslResponse) -> Result<ValueList, Memory>
+    ensures { IfOk result (λ f. f ≡ written sasl_response_rows (sasl_response_fields perf.now)) }
 {
-    let mut fields = Fields::empty(alloc);
-    fields.binary(alloc, &perf.response)?;
+    let mut fields = ValueList::empty(alloc);
+    fields.push_binary(alloc, &perf.response)?;
     Ok(fields)
 }
 
@@ -136,12 +134,11 @@ pub(crate) fn sasl_outcome_of(
 }
 
 /// What is written of the fields of sasl-outcome.
-pub(crate) fn sasl_outcome_written(alloc: Global, perf: &SaslOutcome) -> Result<Fields, Memory>
-    ensures { IfOk result (λ f. f ≡ all_added no_fields (written sasl_outcome_rows
-        (sasl_outcome_fields perf.now))) }
+pub(crate) fn sasl_outcome_written(alloc: Global, perf: &SaslOutcome) -> Result<ValueList, Memory>
+    ensures { IfOk result (λ f. f ≡ written sasl_outcome_rows (sasl_outcome_fields perf.now)) }
 {
-    let mut fields = Fields::empty(alloc);
-    fields.ubyte(perf.code)?;
-    fields.maybe_binary(alloc, &perf.additional_data)?;
+    let mut fields = ValueList::empty(alloc);
+    fields.push(Value10::Ubyte(perf.code))?;
+    fields.push_maybe_binary(alloc, &perf.additional_data)?;
     Ok(fields)
 }

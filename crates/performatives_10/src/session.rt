@@ -8,15 +8,15 @@ ghost use Rattle.types_10.specs.Tree.{trees_of};
 ghost use Rattle.performatives_10.specs.Rows.{begin_rows, end_rows};
 ghost use Rattle.performatives_10.specs.View.{parts_of, begin_fields, end_fields};
 ghost use Rattle.performatives_10.specs.Reading.{perf_in};
-ghost use Rattle.performatives_10.specs.Writing.{written, all_added, no_fields};
+ghost use Rattle.performatives_10.specs.Writing.{written};
 
-use crate::collecting::Fields;
+use crate::collecting::push_maybe_error;
 use crate::fault::PerfFault;
 use crate::getting::{both, error_at, mapping_at, needed_uint, symbols_at, uint_or, ushort_at};
 use crate::kind::PerfKind;
 use crate::performative::{Begin, End, Perf};
 use std::alloc::Global;
-use types_10::SpelledList;
+use types_10::{SpelledList, Value10, ValueList};
 use wire_base::{Memory, Stop};
 
 /// The fields of begin.
@@ -45,19 +45,18 @@ pub(crate) fn begin_of(alloc: Global, fields: &SpelledList<'_>) -> Result<Perf, 
 }
 
 /// What is written of the fields of begin.
-pub(crate) fn begin_written(alloc: Global, perf: &Begin) -> Result<Fields, Memory>
-    ensures { IfOk result (λ f. f ≡ all_added no_fields (written begin_rows
-        (begin_fields perf.now))) }
+pub(crate) fn begin_written(alloc: Global, perf: &Begin) -> Result<ValueList, Memory>
+    ensures { IfOk result (λ f. f ≡ written begin_rows (begin_fields perf.now)) }
 {
-    let mut fields = Fields::empty(alloc);
-    fields.maybe_ushort(perf.remote_channel)?;
-    fields.uint(perf.next_outgoing_id)?;
-    fields.uint(perf.incoming_window)?;
-    fields.uint(perf.outgoing_window)?;
-    fields.uint(perf.handle_max)?;
-    fields.maybe_kept(alloc, &perf.offered_capabilities)?;
-    fields.maybe_kept(alloc, &perf.desired_capabilities)?;
-    fields.maybe_kept(alloc, &perf.properties)?;
+    let mut fields = ValueList::empty(alloc);
+    fields.push_maybe_ushort(perf.remote_channel)?;
+    fields.push(Value10::Uint(perf.next_outgoing_id))?;
+    fields.push(Value10::Uint(perf.incoming_window))?;
+    fields.push(Value10::Uint(perf.outgoing_window))?;
+    fields.push(Value10::Uint(perf.handle_max))?;
+    fields.push_maybe_kept(alloc, &perf.offered_capabilities)?;
+    fields.push_maybe_kept(alloc, &perf.desired_capabilities)?;
+    fields.push_maybe_kept(alloc, &perf.properties)?;
     Ok(fields)
 }
 
@@ -70,11 +69,10 @@ pub(crate) fn end_of(alloc: Global, fields: &SpelledList<'_>) -> Result<Perf, St
 }
 
 /// What is written of the fields of end.
-pub(crate) fn end_written(alloc: Global, perf: &End) -> Result<Fields, Memory>
-    ensures { IfOk result (λ f. f ≡ all_added no_fields (written end_rows
-        (end_fields perf.now))) }
+pub(crate) fn end_written(alloc: Global, perf: &End) -> Result<ValueList, Memory>
+    ensures { IfOk result (λ f. f ≡ written end_rows (end_fields perf.now)) }
 {
-    let mut fields = Fields::empty(alloc);
-    fields.maybe_error(alloc, &perf.error)?;
+    let mut fields = ValueList::empty(alloc);
+    push_maybe_error(alloc, &mut fields, &perf.error)?;
     Ok(fields)
 }

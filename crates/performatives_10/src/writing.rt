@@ -5,16 +5,14 @@ ghost use Rattle.types_10.specs.View.{value_tree};
 ghost use Rattle.types_10.specs.Writing.{HasSpelling};
 ghost use Rattle.performatives_10.specs.View.{kind_of, fields_of};
 ghost use Rattle.performatives_10.specs.Reading.{rows};
-ghost use Rattle.performatives_10.specs.Writing.{written, perf_tree, perf_text, all_added};
-ghost use Rattle.performatives_10.specs.Writing.{no_fields};
+ghost use Rattle.performatives_10.specs.Writing.{written, perf_tree, perf_text};
 
-use crate::collecting::Fields;
 use crate::composing::composite_value;
 use crate::kind::{PerfKind, code_of};
 use crate::performative::Perf;
 use crate::{connection, link, sasl, session};
 use std::alloc::Global;
-use types_10::{Value10, has_spelling, put_value};
+use types_10::{Value10, ValueList, has_spelling, put_value};
 use wire_base::{ByteText, Memory};
 
 /// The kind of a performative.
@@ -40,9 +38,9 @@ fn kind_of(perf: &Perf) -> PerfKind
 }
 
 /// What is written of the fields.
-fn perf_written(alloc: Global, perf: &Perf) -> Result<Fields, Memory>
-    ensures { IfOk result (λ f. f ≡ all_added no_fields (written (rows (kind_of perf.now))
-        (fields_of perf.now))) }
+fn perf_written(alloc: Global, perf: &Perf) -> Result<ValueList, Memory>
+    ensures { IfOk result (λ f. f ≡ written (rows (kind_of perf.now))
+        (fields_of perf.now)) }
 {
     match perf {
         Perf::Open(perf) => connection::open_written(alloc, perf),

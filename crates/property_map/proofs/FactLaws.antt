@@ -4,9 +4,9 @@ use Rattle.std.proofs.Common.{ℤ, refl, ap, subst}
 use Rattle.wire_base.proofs.Laws.{ok_is}
 use Rattle.types_10.specs.Tree.{Tree, scalar, list, mapping, array, described, depth}
 use Rattle.types_10.specs.declared.value.Value10.{Value10}
+use Rattle.types_10.specs.Fields.{maybe, a_boolean, a_ubyte, a_uint, a_timestamp, a_binary}
+use Rattle.types_10.specs.Fields.{a_string, a_symbol}
 use Rattle.types_10.proofs.Depths.{value_depth}
-use Rattle.sections_10.specs.Fields.{maybe, a_boolean, a_ubyte, a_uint, a_timestamp, a_binary}
-use Rattle.sections_10.specs.Fields.{a_string, a_symbol}
 use Rattle.sections_10.specs.Grammar.{IsMaybeAt, IsMessage}
 use Rattle.sections_10.specs.Reading.{map_with, meaning_in, keys_are}
 use Rattle.sections_10.specs.Rows.{Section, message_section, application_section}

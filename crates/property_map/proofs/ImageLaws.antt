@@ -5,8 +5,8 @@ use Rattle.wire_base.proofs.Laws.{ok_is}
 use Rattle.types_10.specs.Tree.{Tree}
 use Rattle.types_10.specs.View.{value_tree}
 use Rattle.types_10.specs.declared.value.Value10.{Value10}
+use Rattle.types_10.specs.Fields.{maybe}
 use Rattle.content_091.specs.declared.header.Props.{Props}
-use Rattle.sections_10.specs.Fields.{maybe}
 use Rattle.sections_10.specs.View.{props_tree, kept_of}
 use Rattle.sections_10.specs.declared.message.MsgHeader.{MsgHeader}
 use Rattle.sections_10.specs.declared.message.MsgProps.{MsgProps}

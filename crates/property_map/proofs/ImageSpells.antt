@@ -16,9 +16,9 @@ use Rattle.types_10.specs.Tree as value
 use Rattle.types_10.specs.Writing.{IsProper, IsWritable, EachIsWritable, PairsAreWritable, load}
 use Rattle.types_10.specs.Writing.{each_load, pairs_load}
 use Rattle.types_10.specs.Writing.{HasSpelling}
-use Rattle.sections_10.specs.Fields.{absent, is_absent, maybe, a_boolean, a_ubyte, a_uint}
-use Rattle.sections_10.specs.Fields.{a_timestamp, a_binary, a_string, a_symbol}
-use Rattle.sections_10.specs.Writing.{in_front, trim, fields_list, header_value, section_text}
+use Rattle.types_10.specs.Fields.{absent, is_absent, maybe, a_boolean, a_ubyte, a_uint, a_timestamp}
+use Rattle.types_10.specs.Fields.{a_binary, a_string, a_symbol, in_front, trim}
+use Rattle.sections_10.specs.Writing.{fields_list, header_value, section_text}
 use Rattle.sections_10.specs.Writing.{maybe_text, IfThere, IsData, CanBeWritten}
 use Rattle.sections_10.specs.declared.message.Body10.{Body10}
 use Rattle.sections_10.specs.declared.message.Message10.{Message10}

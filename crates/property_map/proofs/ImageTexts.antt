@@ -4,8 +4,8 @@ use Rattle.std.proofs.Common.{ap, ◌∙◌}
 use Rattle.types_10.specs.Tree.{Tree}
 use Rattle.types_10.specs.View.{value_tree}
 use Rattle.types_10.specs.declared.value.Value10.{Value10}
+use Rattle.types_10.specs.Fields.{maybe}
 use Rattle.content_091.specs.declared.header.Props.{Props}
-use Rattle.sections_10.specs.Fields.{maybe}
 use Rattle.sections_10.specs.View.{props_fields}
 use Rattle.sections_10.specs.Writing.{fields_list, header_value, props_value, message_text}
 use Rattle.sections_10.specs.declared.message.MsgHeader.{MsgHeader}

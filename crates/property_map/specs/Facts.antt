@@ -6,7 +6,7 @@ use Rattle.types_10.specs.Tree.{Tree, scalar, list, depth}
 use Rattle.types_10.specs.Tree as value
 use Rattle.types_10.specs.Ranges.{IsRanged}
 use Rattle.types_10.specs.View.{value_tree}
-use Rattle.sections_10.specs.Fields.{absent, is_absent, maybe, tree_at}
+use Rattle.types_10.specs.Fields.{absent, is_absent, maybe, tree_at}
 use Rattle.sections_10.specs.View.{Kept}
 use Rattle.sections_10.specs.Writing.{IfThere}
 use Rattle.sections_10.specs.declared.message.Body10.{Body10}

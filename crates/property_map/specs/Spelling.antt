@@ -3,8 +3,8 @@
 -- at fault says nothing here, and the bytes stand for no message.
 use Rattle.std.specs.Prelude.{ℕ, List, [], ◌∷◌, ◌++◌, Option, None, option_map, Ok, Err, Result}
 use Rattle.types_10.specs.Tree.{Tree}
+use Rattle.types_10.specs.Fields.{absent, maybe, a_binary, a_string, a_symbol, a_timestamp}
 use Rattle.content_091.specs.declared.header.Props.{Props}
-use Rattle.sections_10.specs.Fields.{absent, maybe, a_binary, a_string, a_symbol, a_timestamp}
 use Rattle.sections_10.specs.Rows.{header_section, message_section, properties_section}
 use Rattle.sections_10.specs.Rows.{application_section, data_section}
 use Rattle.sections_10.specs.Writing.{fields_list, header_value, section_text, maybe_text}

@@ -3,8 +3,8 @@
 ghost use Rattle.std.specs.Prelude.{◌≡◌, ◌<◌, ◌≤◌, ◌^◌, length, option_map, IfOk, IfSome};
 ghost use Rattle.types_10.specs.Ranges.{IsRanged};
 ghost use Rattle.types_10.specs.View.{value_tree};
+ghost use Rattle.types_10.specs.Fields.{maybe};
 ghost use Rattle.content_091.specs.Writing.{header_text, CanPut};
-ghost use Rattle.sections_10.specs.Fields.{maybe};
 ghost use Rattle.sections_10.specs.View.{kept_of};
 ghost use Rattle.sections_10.specs.Writing.{IfThere};
 ghost use Rattle.property_map.specs.Rows091.{header_in, properties_in};

@@ -5,5 +5,4 @@ pub mod Places
 pub mod ReadingLaws
 pub mod Runs
 pub mod Standing
-pub mod Trimming
 pub mod Written

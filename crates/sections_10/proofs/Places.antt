@@ -3,7 +3,7 @@ use Rattle.std.proofs.Common.{◌≡◌, ◌+◌, ◌<◌, ◌≤◌, ℕ, zero,
 use Rattle.std.proofs.Common.{[], ◌∷◌, length, drop, Option, Some, None, option_map, slice_get}
 use Rattle.std.proofs.Common.{refl, sym, ap, ◌∙◌, arith}
 use Rattle.types_10.specs.Tree.{Tree, trees_of, pairs_of}
-use Rattle.sections_10.specs.Fields.{maybe, tree_at}
+use Rattle.types_10.specs.Fields.{maybe, tree_at}
 use Rattle.sections_10.specs.Reading.{is_key_of, key_found, key_at, keys_are}
 use Rattle.sections_10.specs.declared.sections.Keys.{Keys}
 

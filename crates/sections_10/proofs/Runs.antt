@@ -8,7 +8,7 @@ use Rattle.wire_base.specs.declared.stop.Stop.TheVariants as stop
 use Rattle.wire_base.proofs.Laws.{ok_is}
 use Rattle.wire_base.proofs.FaultLaws.{err_is}
 use Rattle.types_10.specs.Tree.{Tree}
-use Rattle.sections_10.specs.Fields.{a_binary}
+use Rattle.types_10.specs.Fields.{a_binary}
 use Rattle.sections_10.specs.Rows.{Section}
 use Rattle.sections_10.specs.Reading.{front_of, bytes_of, data_behind, sequences_behind, section_in}
 use Rattle.sections_10.specs.Reading.{found_as, stands_in, run_in}

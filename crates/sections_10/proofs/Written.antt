@@ -1,5 +1,5 @@
 -- What is written of a message is read back.
-use Rattle.std.proofs.Common.{◌≡◌, ◌↔◌, inl, ℕ, zero, suc, ◌+◌, ◌-◌, ◌^◌, ◌<◌, ◌≤◌, Bool, true}
+use Rattle.std.proofs.Common.{◌≡◌, ◌↔◌, inl, ℕ, ◌+◌, ◌-◌, ◌^◌, ◌<◌, ◌≤◌, Bool, true}
 use Rattle.std.proofs.Common.{false, cond, ltb, eqb, ℤ, List, [], ◌∷◌, ◌++◌, length, take, drop}
 use Rattle.std.proofs.Common.{get_or, Option, Some, None, option_map, Result, Ok, refl, sym, ap}
 use Rattle.std.proofs.Common.{subst, ◌∙◌, append_assoc, append-nil, arith}
@@ -16,10 +16,13 @@ use Rattle.types_10.specs.Grammar.{IsValue}
 use Rattle.types_10.specs.Ranges.{IsRanged}
 use Rattle.types_10.specs.Writing.{value_text, HasSpelling}
 use Rattle.types_10.specs.declared.value.Value10.{Value10}
+use Rattle.types_10.specs.Fields.{absent, maybe, a_boolean, a_ubyte, a_uint, a_timestamp}
+use Rattle.types_10.specs.Fields.{a_binary, a_string, a_symbol, tree_at, trim}
 use Rattle.types_10.proofs.Canonical.{written_is_canonical}
 use Rattle.types_10.proofs.Within.{canonical_is_spelled}
-use Rattle.sections_10.specs.Fields.{Row, may, absent, is_absent, maybe, a_boolean, a_ubyte, a_uint}
-use Rattle.sections_10.specs.Fields.{a_timestamp, a_binary, a_string, a_symbol, tree_at, leaf_in}
+use Rattle.types_10.proofs.Trimmed.{trimmed_at}
+use Rattle.sections_10.specs.Fields.{Row, may}
+use Rattle.sections_10.specs.Fields.{leaf_in}
 use Rattle.sections_10.specs.Fields.{field_in, fields_in}
 use Rattle.sections_10.specs.Fields as field
 use Rattle.sections_10.specs.Rows.{Section, header_rows, properties_rows, header_section}
@@ -29,7 +32,7 @@ use Rattle.sections_10.specs.View.{header_fields, props_fields, header_tree, pro
 use Rattle.sections_10.specs.Reading.{is_key_of, keys_are, map_with, meaning_in, kind_of, Sections}
 use Rattle.sections_10.specs.Reading.{message_in}
 use Rattle.sections_10.specs.Grammar.{IsSectionAt, IsMaybeAt, IsBodyAt, IsMessage}
-use Rattle.sections_10.specs.Writing.{in_front, trim, unless_false, unless_zero, header_written}
+use Rattle.sections_10.specs.Writing.{unless_false, unless_zero, header_written}
 use Rattle.sections_10.specs.Writing.{header_value, props_value, section_text, maybe_text}
 use Rattle.sections_10.specs.Writing.{binary_head, body_text, body_bytes, message_text, IfThere}
 use Rattle.sections_10.specs.Writing.{IsData, EachWritten, CanBeWritten, IsId, HasIds, IsMapWith}
@@ -42,7 +45,6 @@ use Rattle.sections_10.specs.declared.message.Body10.{Body10}
 use Rattle.sections_10.specs.declared.message.Body10.TheVariants as body
 use Rattle.sections_10.specs.declared.message.Message10.{Message10}
 use Rattle.sections_10.proofs.MessageLaws.{spelled_is_read}
-use Rattle.sections_10.proofs.Trimming.{absent_is}
 
 -- ---- data
 
@@ -103,26 +105,6 @@ front_stands m old new e =
     sym (length-append new (body_bytes m.body)) ∙ ap length e ∙ length-append old (message_text m) in
     let shorter : length old ≤ length new = omega (arith, size, bytes_within m) in
     sym (take-append-le (length old) new (body_bytes m.body) shorter) ∙ ap (take (length old)) e ∙ take_at old (message_text m) (length old) refl
-
--- ---- trimmed lists
-
-front_at : (t : Tree) (us : List Tree) (k : ℕ) → tree_at (trees_of (in_front t us)) k ≡ tree_at (trees_of (t ∷ us)) k
-front_at t [] k = step (is_absent t) refl k
-  where
-    step : (b : Bool) → is_absent t ≡ b → (i : ℕ) → tree_at (trees_of (in_front t [])) i ≡ tree_at (trees_of (t ∷ [])) i
-    step true e zero = rw e (sym (absent_is t e))
-    step true e (suc i) = rw e refl
-    step false e i = rw e refl
-front_at t (u ∷ us) k = refl
-
-behind_at : (t : Tree) (us vs : List Tree) → ((k : ℕ) → tree_at (trees_of us) k ≡ tree_at (trees_of vs) k) → (k : ℕ) → tree_at (trees_of (t ∷ us)) k ≡ tree_at (trees_of (t ∷ vs)) k
-behind_at t us vs h zero = refl
-behind_at t us vs h (suc k) = h k
-
--- nulls at the end are as good as none
-trimmed_at : (ts : List Tree) (k : ℕ) → tree_at (trees_of (trim ts)) k ≡ tree_at (trees_of ts) k
-trimmed_at [] k = refl
-trimmed_at (t ∷ ts) k = front_at t (trim ts) k ∙ behind_at t (trim ts) ts (trimmed_at ts) k
 
 abbrev both : Result Tree (Unit {0}) → Result (List Tree) (Unit {0}) → Result (List Tree) (Unit {0})
 both first others = first >>= λ x. others >>= λ xs. Ok (x ∷ xs)

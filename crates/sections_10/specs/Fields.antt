@@ -1,10 +1,10 @@
 -- Fields of a list (AMQP 1.0 1.4): what a row of a table says of a field, and what is read of one.
--- A field past the end of the list is null, and null is absent.
-use Rattle.std.specs.Prelude.{ℕ, zero, suc, ◌+◌, Bool, true, false, if◌then◌else◌, List, [], ◌∷◌}
-use Rattle.std.specs.Prelude.{Option, Some, None, Ok, Err, Result, ℤ}
+use Rattle.std.specs.Prelude.{ℕ, ◌+◌, if◌then◌else◌, List, [], ◌∷◌, Ok, Err, Result}
 use Rattle.wire_base.specs.Reading.{◌>>=◌}
-use Rattle.types_10.specs.Tree.{Scalar, Tree, scalar, Trees, no_trees, tree}
+use Rattle.types_10.specs.Tree.{Tree, scalar, Trees}
 use Rattle.types_10.specs.Tree as value
+use Rattle.types_10.specs.Fields.{a_boolean, a_ubyte, a_uint, a_timestamp, a_binary, a_string}
+use Rattle.types_10.specs.Fields.{a_symbol, absent, tree_at, is_absent}
 
 -- ---- rows
 
@@ -24,55 +24,10 @@ pub data Leaf : Type 0 where
 abbrev pub Row : Type 0
 Row = Leaf × Tree
 
--- ---- values of fields
-
-abbrev pub a_boolean : Bool → Tree
-a_boolean b = scalar (value.boolean b)
-
-abbrev pub a_ubyte : ℕ → Tree
-a_ubyte n = scalar (value.ubyte n)
-
-abbrev pub a_uint : ℕ → Tree
-a_uint n = scalar (value.uint n)
-
-abbrev pub a_timestamp : ℤ → Tree
-a_timestamp z = scalar (value.timestamp z)
-
-abbrev pub a_binary : List ℕ → Tree
-a_binary s = scalar (value.binary s)
-
-abbrev pub a_string : List ℕ → Tree
-a_string s = scalar (value.string s)
-
-abbrev pub a_symbol : List ℕ → Tree
-a_symbol s = scalar (value.symbol s)
-
-abbrev pub absent : Tree
-absent = scalar value.null
-
--- what is there, or absent
-abbrev pub maybe : {A : Type 0} → (A → Tree) → Option A → Tree
-maybe f None = absent
-maybe f (Some x) = f x
-
 abbrev pub may : Leaf → Row
 may l = (l, absent)
 
 -- ---- reading
-
--- the value at a place; past the end it is absent
-abbrev pub tree_at : Trees → ℕ → Tree
-tree_at no_trees k = absent
-tree_at (tree t ts) zero = t
-tree_at (tree t ts) (suc k) = tree_at ts k
-
-abbrev pub is_null : Scalar → Bool
-is_null value.null = true
-is_null s = false
-
-abbrev pub is_absent : Tree → Bool
-is_absent (scalar s) = is_null s
-is_absent t = false
 
 -- what has no value: that there is another type than the one that a table says is all that is told
 abbrev pub wrong : Result Tree (Unit {0})

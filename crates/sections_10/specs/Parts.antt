@@ -3,7 +3,8 @@
 use Rattle.std.specs.Prelude.{List, [], ◌∷◌, take, drop}
 use Rattle.types_10.specs.Tree.{Tree}
 use Rattle.types_10.specs.View.{value_tree}
-use Rattle.sections_10.specs.Fields.{Row, maybe, a_uint, a_timestamp, a_binary, a_string, a_symbol}
+use Rattle.types_10.specs.Fields.{maybe, a_uint, a_timestamp, a_binary, a_string, a_symbol}
+use Rattle.sections_10.specs.Fields.{Row}
 use Rattle.sections_10.specs.Rows.{properties_rows}
 use Rattle.sections_10.specs.declared.properties.Route.{Route}
 use Rattle.sections_10.specs.declared.properties.Content.{Content}

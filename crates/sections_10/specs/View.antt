@@ -2,8 +2,8 @@
 use Rattle.std.specs.Prelude.{List, [], ◌∷◌, Option, option_map}
 use Rattle.types_10.specs.Tree.{Tree, list, trees_of}
 use Rattle.types_10.specs.View.{value_tree}
-use Rattle.sections_10.specs.Fields.{maybe, a_boolean, a_ubyte, a_uint, a_timestamp, a_binary}
-use Rattle.sections_10.specs.Fields.{a_string, a_symbol}
+use Rattle.types_10.specs.Fields.{maybe, a_boolean, a_ubyte, a_uint, a_timestamp, a_binary}
+use Rattle.types_10.specs.Fields.{a_string, a_symbol}
 use Rattle.sections_10.specs.declared.message.MsgHeader.{MsgHeader}
 use Rattle.sections_10.specs.declared.message.MsgProps.{MsgProps}
 use Rattle.sections_10.specs.declared.message.Body10.{Body10}

@@ -1,14 +1,14 @@
 -- What is written of a message (AMQP 1.0 3.2): its sections in their order, each with the shortest
 -- spelling of its value. Of a list of fields, one that is absent or has its default is null, and
 -- nulls at the end are left out.
-use Rattle.std.specs.Prelude.{◌≡◌, ℕ, zero, suc, ◌+◌, ◌==◌, nat_lt, Bool, true, false}
+use Rattle.std.specs.Prelude.{◌≡◌, ℕ, ◌==◌, nat_lt, Bool, true, false}
 use Rattle.std.specs.Prelude.{if◌then◌else◌, List, [], ◌∷◌, ◌++◌, Option, Some, None, option_map}
 use Rattle.std.specs.Int.{w8, w32, to_be_bytes}
 use Rattle.types_10.specs.Tree.{Tree, scalar, list, mapping, trees_of}
 use Rattle.types_10.specs.Tree as value
 use Rattle.types_10.specs.View.{value_tree}
 use Rattle.types_10.specs.Writing.{value_text, HasSpelling}
-use Rattle.sections_10.specs.Fields.{absent, is_absent, maybe, a_boolean, a_ubyte, a_uint, a_binary}
+use Rattle.types_10.specs.Fields.{absent, maybe, a_boolean, a_ubyte, a_uint, a_binary, trim}
 use Rattle.sections_10.specs.Reading.{is_annotation_key, is_string_key, keys_are}
 use Rattle.sections_10.specs.View.{props_fields}
 use Rattle.sections_10.specs.declared.message.MsgHeader.{MsgHeader}
@@ -16,20 +16,10 @@ use Rattle.sections_10.specs.declared.message.MsgProps.{MsgProps}
 use Rattle.sections_10.specs.declared.message.Body10.{Body10}
 use Rattle.sections_10.specs.declared.message.Body10.TheVariants as body
 use Rattle.sections_10.specs.declared.message.Message10.{Message10}
-use Rattle.sections_10.specs.declared.collecting.Fields.{Fields}
 
 -- ---- lists of fields
 
--- a value in front of others, unless both are nothing
-abbrev pub in_front : Tree → List Tree → List Tree
-in_front t [] = if is_absent t then [] else t ∷ []
-in_front t (u ∷ us) = t ∷ u ∷ us
-
--- the values without the nulls at their end
-abbrev pub trim : List Tree → List Tree
-trim [] = []
-trim (t ∷ ts) = in_front t (trim ts)
-
+-- a list of fields, without the nulls at its end
 abbrev pub fields_list : List Tree → Tree
 fields_list xs = list (trees_of (trim xs))
 
@@ -148,23 +138,3 @@ pub record HasTypes (m : Message10) : Type 0 where
   pub ids : HasIds m.properties
   pub annotations : IfThere (IsMapWith is_annotation_key) (option_map value_tree m.annotations)
   pub application : IfThere (IsMapWith is_string_key) (option_map value_tree m.application)
-
--- ---- collecting fields one by one
-
--- so many nulls
-abbrev pub nulls : ℕ → List Tree
-nulls zero = []
-nulls (suc n) = absent ∷ nulls n
-
--- fields, of which nulls at the end are counted alone, and one more field
-unfoldable pub added : Fields → Tree → Fields
-added f t =
-    if is_absent t then record { list = f.list; nulls = f.nulls + 1 }
-    else record { list = f.list ++ nulls f.nulls ++ t ∷ []; nulls = 0 }
-
-unfoldable pub no_fields : Fields
-no_fields = record { list = []; nulls = 0 }
-
-abbrev pub all_added : Fields → List Tree → Fields
-all_added f [] = f
-all_added f (x ∷ xs) = all_added (added f x) xs

@@ -5,8 +5,9 @@ ghost use Rattle.std.specs.Prelude.{◌≡◌};
 ghost use Rattle.wire_base.specs.Reading.{Gives};
 ghost use Rattle.types_10.specs.Tree.{trees_of};
 ghost use Rattle.types_10.specs.View.{value_tree};
-ghost use Rattle.sections_10.specs.Fields.{maybe, may, absent, a_boolean, a_ubyte, a_uint};
-ghost use Rattle.sections_10.specs.Fields.{a_timestamp, a_binary, a_string, a_symbol, tree_at};
+ghost use Rattle.types_10.specs.Fields.{maybe, absent, a_boolean, a_ubyte, a_uint, a_timestamp};
+ghost use Rattle.types_10.specs.Fields.{a_binary, a_string, a_symbol, tree_at};
+ghost use Rattle.sections_10.specs.Fields.{may};
 ghost use Rattle.sections_10.specs.Fields.{field_at};
 ghost use Rattle.sections_10.specs.Fields as field;
 

@@ -2,7 +2,6 @@
 #![tactic(auto)]
 
 mod bodies;
-mod collecting;
 mod fields;
 mod laws;
 mod message;

@@ -8,7 +8,7 @@ ghost use Rattle.wire_base.specs.Reading.{Gives};
 ghost use Rattle.types_10.specs.Tree.{pairs_of};
 ghost use Rattle.types_10.specs.View.{value_tree};
 ghost use Rattle.types_10.specs.Reading.{value_at};
-ghost use Rattle.sections_10.specs.Fields.{a_binary};
+ghost use Rattle.types_10.specs.Fields.{a_binary};
 ghost use Rattle.sections_10.specs.Rows.{header_section, properties_section};
 ghost use Rattle.sections_10.specs.Rows.{data_section, sequence_section, value_section};
 ghost use Rattle.sections_10.specs.View.{header_tree, props_tree};

@@ -8,18 +8,16 @@ ghost use Rattle.std.specs.Prelude.{IfOk, OnOk, OnErr};
 ghost use Rattle.types_10.specs.Tree.{Tree};
 ghost use Rattle.types_10.specs.View.{value_tree};
 ghost use Rattle.types_10.specs.Writing.{value_text, HasSpelling};
-ghost use Rattle.sections_10.specs.Fields.{maybe, a_boolean, a_uint};
-ghost use Rattle.sections_10.specs.View.{props_fields};
-ghost use Rattle.sections_10.specs.Writing.{fields_list, unless_false, unless_zero, header_written};
+ghost use Rattle.types_10.specs.Fields.{maybe, a_boolean, a_uint};
+ghost use Rattle.sections_10.specs.Writing.{fields_list, unless_false, unless_zero};
 ghost use Rattle.sections_10.specs.Writing.{header_value, props_value, section_text, maybe_text};
 ghost use Rattle.sections_10.specs.Writing.{binary_head, body_text, body_bytes, message_text};
-ghost use Rattle.sections_10.specs.Writing.{IfThere, IsData, CanBeWritten, all_added, no_fields};
+ghost use Rattle.sections_10.specs.Writing.{IfThere, IsData, CanBeWritten};
 
-use crate::collecting::Fields;
 use crate::message::{Body10, Message10, MsgHeader, MsgProps};
 use crate::sections::{APPLICATION_PROPERTIES, DATA, HEADER, MESSAGE_ANNOTATIONS, PROPERTIES};
 use std::alloc::Global;
-use types_10::{Value10, has_spelling, put_value};
+use types_10::{Value10, ValueList, has_spelling, put_value};
 use wire_base::{ByteText, Memory, put_u8, put_u32};
 
 /// The codes of an ulong of one byte, and of a binary with a length of one byte or of four (AMQP
@@ -39,13 +37,13 @@ const LEAST_TOO_LONG: usize = 0xFFFF_FFFB;
 
 // ---- lists of fields
 
-/// The list of these fields.
-#[tactic(auto, using(crate::proofs::Trimming::collected))]
-fn list_value(fields: Fields) -> Value10
-    ensures { (xs : List Tree) → fields ≡ all_added no_fields xs
-        → value_tree result ≡ fields_list xs }
+/// The list of these fields, without the nulls at its end.
+fn list_value(fields: ValueList) -> Value10
+    ensures { value_tree result ≡ fields_list fields }
 {
-    Value10::List(fields.list)
+    let mut list = fields;
+    list.trim();
+    Value10::List(list)
 }
 
 /// A boolean, absent where it is false.
@@ -62,53 +60,37 @@ fn unless_zero(n: u32) -> Option<u32>
     if n == 0 { None } else { Some(n) }
 }
 
-/// What is written of the fields of a header.
-fn header_written(alloc: Global, header: &MsgHeader) -> Result<Fields, Memory>
-    ensures { IfOk result (λ f. f ≡ all_added no_fields (header_written header.now)) }
-{
-    let mut fields = Fields::empty(alloc);
-    fields.boolean(header.durable)?;
-    fields.ubyte(header.priority)?;
-    fields.uint(header.ttl)?;
-    fields.boolean(unless_false(header.first_acquirer))?;
-    fields.uint(unless_zero(header.delivery_count))?;
-    Ok(fields)
-}
-
 /// The value of a header.
 fn header_value(alloc: Global, header: &MsgHeader) -> Result<Value10, Memory>
     ensures { IfOk result (λ v. value_tree v ≡ header_value header.now) }
 {
-    let fields = header_written(alloc, header)?;
+    let mut fields = ValueList::empty(alloc);
+    fields.push_maybe_boolean(header.durable)?;
+    fields.push_maybe_ubyte(header.priority)?;
+    fields.push_maybe_uint(header.ttl)?;
+    fields.push_maybe_boolean(unless_false(header.first_acquirer))?;
+    fields.push_maybe_uint(unless_zero(header.delivery_count))?;
     Ok(list_value(fields))
-}
-
-/// What is written of the fields of properties.
-fn props_written(alloc: Global, props: &MsgProps) -> Result<Fields, Memory>
-    ensures { IfOk result (λ f. f ≡ all_added no_fields (props_fields props.now)) }
-{
-    let mut fields = Fields::empty(alloc);
-    fields.maybe_value(alloc, &props.message_id)?;
-    fields.binary(alloc, &props.user_id)?;
-    fields.string(alloc, &props.to)?;
-    fields.string(alloc, &props.subject)?;
-    fields.string(alloc, &props.reply_to)?;
-    fields.maybe_value(alloc, &props.correlation_id)?;
-    fields.symbol(alloc, &props.content_type)?;
-    fields.symbol(alloc, &props.content_encoding)?;
-    fields.timestamp(props.absolute_expiry_time)?;
-    fields.timestamp(props.creation_time)?;
-    fields.string(alloc, &props.group_id)?;
-    fields.uint(props.group_sequence)?;
-    fields.string(alloc, &props.reply_to_group_id)?;
-    Ok(fields)
 }
 
 /// The value of properties.
 fn props_value(alloc: Global, props: &MsgProps) -> Result<Value10, Memory>
     ensures { IfOk result (λ v. value_tree v ≡ props_value props.now) }
 {
-    let fields = props_written(alloc, props)?;
+    let mut fields = ValueList::empty(alloc);
+    fields.push_maybe_value(alloc, &props.message_id)?;
+    fields.push_maybe_binary(alloc, &props.user_id)?;
+    fields.push_maybe_string(alloc, &props.to)?;
+    fields.push_maybe_string(alloc, &props.subject)?;
+    fields.push_maybe_string(alloc, &props.reply_to)?;
+    fields.push_maybe_value(alloc, &props.correlation_id)?;
+    fields.push_maybe_symbol(alloc, &props.content_type)?;
+    fields.push_maybe_symbol(alloc, &props.content_encoding)?;
+    fields.push_maybe_timestamp(props.absolute_expiry_time)?;
+    fields.push_maybe_timestamp(props.creation_time)?;
+    fields.push_maybe_string(alloc, &props.group_id)?;
+    fields.push_maybe_uint(props.group_sequence)?;
+    fields.push_maybe_string(alloc, &props.reply_to_group_id)?;
     Ok(list_value(fields))
 }
 

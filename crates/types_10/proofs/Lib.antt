@@ -19,6 +19,7 @@ pub mod Slices
 pub mod Spellable
 pub mod Spellings
 pub mod Texts
+pub mod Trimmed
 pub mod Types
 pub mod ValueLaws
 pub mod Wider

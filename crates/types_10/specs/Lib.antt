@@ -1,6 +1,7 @@
 pub mod Canonical
 pub mod Falls
 pub mod Faults
+pub mod Fields
 pub mod Grammar
 pub mod Kinds
 pub mod Loads

@@ -18,6 +18,7 @@
 mod copying;
 mod depth;
 mod fault;
+mod fields;
 mod kind;
 mod laws;
 mod load;

@@ -1,7 +1,8 @@
 //! Values, and the lists and maps of them (AMQP 1.0 1.6).
 
 ghost use Rattle.std.specs.Prelude.{◌≡◌, ℕ, ◌+◌, List, [], ◌∷◌, ◌++◌, length, option_map};
-ghost use Rattle.std.specs.Prelude.{slice_get, IfOk, OnOk, OnErr};
+ghost use Rattle.std.specs.Prelude.{map, slice_get, IfOk, OnOk, OnErr};
+ghost use Rattle.types_10.specs.Fields.{is_absent, ends_absent, trim};
 ghost use Rattle.types_10.specs.Ranges.{IsRanged};
 ghost use Rattle.types_10.specs.View.{value_tree, pair_trees};
 
@@ -205,6 +206,23 @@ pub fn tell_ranges(value: &Value10)
     }
 }
 
+/// A value is null.
+fn is_null(value: &Value10) -> bool
+    ensures { result ≡ is_absent (value_tree value.now) }
+{
+    matches!(value, Value10::Null)
+}
+
+/// The last of these values is null.
+fn ends_with_null(values: &[Value10]) -> bool
+    ensures { result ≡ ends_absent (map value_tree values.now) }
+{
+    match values.split_last() {
+        Some((last, _)) => is_null(last),
+        None => false,
+    }
+}
+
 impl ValueList {
     /// The empty list. It takes the allocator that later growth uses, and no memory.
     pub fn empty(alloc: Global) -> ValueList
@@ -227,6 +245,15 @@ impl ValueList {
         tell_ranges(&value);
         self.items.push(value)?;
         Ok(())
+    }
+
+    /// Drops the nulls at the end: absent fields, of which a list needs to spell none (AMQP 1.0 1.4).
+    pub fn trim(&mut self)
+        ensures { self.new ≡ trim self.old }
+    {
+        while ends_with_null(self.items.as_slice()) {
+            drop(self.items.pop());
+        }
     }
 
     /// The count of the values.

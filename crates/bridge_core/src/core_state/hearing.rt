@@ -13,7 +13,7 @@ ghost use Rattle.close_translate.specs.Conditions.{code_by};
 ghost use Rattle.machine_091.specs.declared.unit.Want91.TheVariants as want;
 ghost use Rattle.machine_10.specs.Parts.{parts_of};
 ghost use Rattle.machine_10.specs.Transitions.{meaning_of};
-ghost use Rattle.performatives_10.specs.Fields.{maybe};
+ghost use Rattle.types_10.specs.Fields.{maybe};
 ghost use Rattle.performatives_10.specs.View.{error_tree};
 ghost use Rattle.bridge_core.specs.Flows.{FlowsFit};
 ghost use Rattle.bridge_core.specs.Going.{KeepsGoing};

@@ -1,6 +1,6 @@
 use Rattle.std.proofs.Common.{List, ℕ, [], ◌∷◌, ◌++◌, ◌+◌, ap, ◌∙◌, subst, arith}
 use Rattle.types_10.specs.Writing.{value_text}
-use Rattle.performatives_10.specs.Fields.{a_uint}
+use Rattle.types_10.specs.Fields.{a_uint}
 use Rattle.performatives_10.specs.Closing.{head_text, error_text, IsWrittenOver}
 use Rattle.performatives_10.proofs.Frames.{detach_is}
 use Rattle.performatives_10.proofs.closing.put_detach.Goals as goal

@@ -1,6 +1,6 @@
 use Rattle.std.proofs.Common.{List, ℕ, [], ◌∷◌, ◌++◌, ◌+◌, length, ap, subst, arith}
 use Rattle.types_10.specs.Writing.{value_text}
-use Rattle.performatives_10.specs.Fields.{a_uint, maybe}
+use Rattle.types_10.specs.Fields.{a_uint, maybe}
 use Rattle.performatives_10.specs.Closing.{head_text, IsWrittenOver}
 use Rattle.performatives_10.proofs.closing.put_disposition.Goals as goal
 

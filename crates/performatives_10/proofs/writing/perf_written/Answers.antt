@@ -1,15 +1,15 @@
-use Rattle.std.proofs.Common.{◌≡◌, Result, IfOk, subst, sym}
+use Rattle.std.proofs.Common.{◌≡◌, List, Result, IfOk, subst, sym}
 use Rattle.wire_base.specs.declared.memory.Memory.{Memory}
 use Rattle.performatives_10.specs.Reading.{rows}
 use Rattle.performatives_10.specs.View.{kind_of, fields_of}
-use Rattle.performatives_10.specs.Writing.{written, all_added, no_fields}
-use Rattle.performatives_10.specs.declared.collecting.Fields.{Fields}
+use Rattle.performatives_10.specs.Writing.{written}
+use Rattle.types_10.specs.Tree.{Tree}
 use Rattle.performatives_10.specs.declared.performative.Perf.{Perf}
 use Rattle.performatives_10.proofs.writing.perf_written.Goals as goal
 
 -- what was collected is what is written of a performative
-abbrev Gives : Result Fields Memory → Perf → Type 0
-Gives r p = IfOk r (λ f. f ≡ all_added no_fields (written (rows (kind_of p)) (fields_of p)))
+abbrev Gives : Result (List Tree) Memory → Perf → Type 0
+Gives r p = IfOk r (λ f. f ≡ written (rows (kind_of p)) (fields_of p))
 
 pub returns-in-Attach : goal.returns-in-Attach
 returns-in-Attach c = subst (Gives c.attach_written.result) (sym c.in-Attach.is) c.attach_written.ensures
