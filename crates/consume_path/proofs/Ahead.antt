@@ -5,6 +5,8 @@ use Rattle.std.specs.Prelude.{find, count_by, ◌&&◌}
 use Rattle.std.specs.List.{AllByRecursion}
 use Rattle.std.proofs.lemmas.Grind.{common_steps}
 use Rattle.std.proofs.Common.{arith}
+use Rattle.open_items.specs.Places.{AllFrom}
+use Rattle.open_items.proofs.Places.{none_counted, from_any, from_find}
 use Rattle.consume_path.specs.declared.delivery.Delivery.{Delivery}
 use Rattle.consume_path.specs.declared.delivery.Place.{Place}
 use Rattle.consume_path.specs.declared.delivery.Place.TheVariants.{Held, Out, Owed, Settled}
@@ -13,8 +15,8 @@ use Rattle.consume_path.specs.declared.delivery.Taker.TheVariants.{Nobody, Gette
 use Rattle.consume_path.specs.Items.{is_held, needs_content}
 use Rattle.consume_path.specs.Offers.{soonest, rank_of, get_offer, consumer_offer, has_content}
 use Rattle.consume_path.specs.Offers.{holds, is_held_on, on_link, getting, deliver_of}
-use Rattle.consume_path.specs.Kept.{AllFrom, is_getter, is_waiting}
-use Rattle.consume_path.proofs.Passing.{none_counted, from_any, from_find, from_soonest}
+use Rattle.consume_path.specs.Kept.{is_getter, is_waiting}
+use Rattle.consume_path.proofs.Passing.{from_soonest}
 
 not_held : (d : Delivery) → needs_content d ≡ false → is_held d.place ≡ false
 not_held d e = grind (arith, common_steps)

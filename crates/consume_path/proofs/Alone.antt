@@ -1,6 +1,6 @@
 -- What is found at a place that was kept, and the one delivery that passes a test.
 use Rattle.std.proofs.Common.{◌≡◌, ◌∙◌, ℕ, zero, suc, ◌+◌, ◌≤◌, ◌%◌, ◌^◌, List, [], ◌∷◌, Bool, true, false}
-use Rattle.std.proofs.Common.{refl, sym, ap, subst, arith, cond, Option, Some, None}
+use Rattle.std.proofs.Common.{refl, ap, subst, arith, cond, Option, Some, None}
 use Rattle.std.specs.Prelude.{find, count_by, is_some, ◌==◌, ◌&&◌, ◌||◌}
 use Rattle.std.specs.List.{AllByRecursion, list_any, slice_get}
 use Rattle.std.specs.Option.{option_map}
@@ -8,15 +8,15 @@ use Rattle.std.proofs.lemmas.Bool.Decides.{nat_tests}
 use Rattle.std.proofs.lemmas.List.Sums.{sum_by-cons, get_or-le-sum_by}
 use Rattle.std.proofs.lemmas.Option.{get_or_from_slice_get, slice_get_within}
 use Rattle.links_10.specs.Send.{advanced}
+use Rattle.open_items.proofs.Places.{none_counted}
 use Rattle.consume_path.specs.declared.delivery.Delivery.{Delivery}
 use Rattle.consume_path.specs.declared.delivery.NextSettle.{NextSettle}
 use Rattle.consume_path.specs.declared.delivery.Place.{Place}
 use Rattle.consume_path.specs.declared.delivery.Place.TheVariants.{Held, Out, Owed, Settled}
 use Rattle.consume_path.specs.declared.delivery.Settle.{Settle}
 use Rattle.consume_path.specs.Items.{owes, owes_as, owed_settle}
-use Rattle.consume_path.specs.Offers.{owes_id, owes_of, run_to, run_from, settle_in, settle_from, next_settle_of}
+use Rattle.consume_path.specs.Offers.{owes_id, owes_of, run_to, settle_in, settle_from, next_settle_of}
 use Rattle.consume_path.specs.Kept.{is_there, is_owing, settle_alone, alone_of, only_settle}
-use Rattle.consume_path.proofs.Passing.{none_counted}
 
 -- what stands at a place is in the list
 pub found_any : (t : Delivery → Bool) (ds : List Delivery) (i : ℕ) → is_there t (slice_get ds i) ≡ true → list_any t ds ≡ true

@@ -12,7 +12,10 @@ use Rattle.links_10.specs.Recv.{recounted, after_attach, after_peer_flow, after_
 use Rattle.links_10.specs.Recv.{after_arrival}
 use Rattle.links_10.specs.declared.recv.Receiving.{Receiving}
 use Rattle.open_items.proofs.Filtered.{all_map, all_filter, all_weaker, all_push, count_by-filter}
-use Rattle.open_items.proofs.Numbered.{Rising, rising_push}
+use Rattle.open_items.specs.Places.{AllFrom, place_from}
+use Rattle.open_items.proofs.Numbered.{Rising, rising_push, rising_map, rising_filter}
+use Rattle.open_items.proofs.Places.{none_counted, count_open, count_fewer, from_start, from_on}
+use Rattle.open_items.proofs.Places.{from_map, from_push, IsBetween}
 use Rattle.open_items.specs.declared.lost.LostKind.{LostKind}
 use Rattle.consume_path.specs.declared.changes.Change.{Change}
 use Rattle.consume_path.specs.declared.changes.Change.TheVariants.{Delivered, Written, Answered}
@@ -41,15 +44,12 @@ use Rattle.consume_path.specs.Links.{has_number, change_first, begun, transfer_c
 use Rattle.consume_path.specs.Links.{link_changed, link_closed, without, counts_on, one_if}
 use Rattle.consume_path.specs.Links.{recount}
 use Rattle.consume_path.specs.Deliveries.{DeliveryState, LinesTold, with_list, after_event}
-use Rattle.consume_path.specs.Kept.{number_of, is_numbered, is_tagged, begins, is_there, visit_at, AllFrom}
-use Rattle.consume_path.specs.Kept.{place_from}
+use Rattle.consume_path.specs.Kept.{number_of, is_numbered, is_tagged, begins, is_there, visit_at}
 use Rattle.consume_path.specs.Kept.{is_owing, is_waiting, has_line, is_writing, tally_of, no_tally, exchanged, counts_of}
 use Rattle.consume_path.specs.Kept.{counts_after, tallied, taken_counted, came_counted, IsCounted}
 use Rattle.consume_path.specs.Kept.{IsTrim, IsUpTo, IsLinkFrom, IsKept, counted_anew}
 use Rattle.consume_path.specs.Offers.{added, settle_from, next_settle_of, is_unsettled, lines_of}
-use Rattle.consume_path.proofs.Passing.{none_counted, numbered_once, rising_map, rising_filter}
-use Rattle.consume_path.proofs.Passing.{IsBetween, visit_between, count_fewer, count_open}
-use Rattle.consume_path.proofs.Passing.{from_start, from_on, from_map, from_push}
+use Rattle.consume_path.proofs.Passing.{numbered_once, visit_between}
 use Rattle.consume_path.proofs.Steps.{counts_on_closed, recounts_seen, changed_seen, open_open, add_seen}
 use Rattle.consume_path.proofs.Steps.{settle_seen, unsettled_closed}
 use Rattle.consume_path.proofs.Visited.{exchange_is, at_most_one, all_same, counts_push, tallied_push}
@@ -171,7 +171,7 @@ changed_kept {links} {items} {counts} {n} {m} {f} {u} {w} k change {after} {now}
   counted = subst (AllByRecursion (IsCounted now)) (sym g) (recount_counts now links);
   counts_are = counted;
   trim = subst (AllByRecursion IsTrim) (sym e) (all_trim change items);
-  rising = subst (Rising number_of 0) (sym e) (rising_map (changed change) (same_number change) 0 items k.rising);
+  rising = subst (Rising number_of 0) (sym e) (rising_map number_of (changed change) (same_number change) 0 items k.rising);
   given = subst (AllByRecursion (λ d. d.number ≤ n)) (sym e) (all_map (changed change) _ _ (λ d le. subst (λ i. i ≤ n) (sym (same_number change d)) le) items k.given);
   tagged = subst (AllByRecursion (λ d. d.tag ≤ high)) (sym e) tags.0;
   once = λ tag. subst (λ ds. count_by (is_tagged (tag + 1)) ds ≤ 1) (sym e) (tags.1 tag);
@@ -263,7 +263,7 @@ kept_open {links} {items} {counts} {n} {m} {f} {u} {w} k {now} e = subst (λ ds.
   counted = open_counted items links k.counted;
   counts_are = k.counts_are ∙ sym (counts_seen items);
   trim = all_filter is_open IsTrim items k.trim;
-  rising = rising_filter is_open 0 items k.rising;
+  rising = rising_filter number_of is_open 0 items k.rising;
   given = all_filter is_open _ items k.given;
   topped = all_filter is_open (IsUpTo u) items k.topped;
   linked = all_filter is_open (IsLinkFrom w) items k.linked;

@@ -1,10 +1,12 @@
 -- Bounds: what all links have unsettled bounds what one of them has, and an id all ids.
-use Rattle.std.proofs.Common.{◌≡◌, ◌∙◌, ℕ, zero, suc, ◌≤◌, ◌<◌, List, [], ◌∷◌, Bool, true, false, refl, sym, subst}
+use Rattle.std.proofs.Common.{◌≡◌, ◌∙◌, ℕ, ◌≤◌, ◌<◌, List, [], ◌∷◌, Bool, true, false, refl, sym, subst}
 use Rattle.std.proofs.Common.{arith, drop, cond, Option, Some, None}
 use Rattle.std.specs.Prelude.{IfSome, count_by, ◌&&◌, ◌==◌, nat_lt, nat_le}
 use Rattle.std.specs.List.{AllByRecursion, list_any}
 use Rattle.std.proofs.lemmas.Bool.Decides.{nat_tests}
 use Rattle.std.proofs.lemmas.List.{map-id}
+use Rattle.open_items.proofs.Filtered.{all_drop}
+use Rattle.open_items.proofs.Places.{count_fewer}
 use Rattle.consume_path.specs.declared.delivery.Delivery.{Delivery}
 use Rattle.consume_path.specs.declared.searches.Ranked.{Ranked}
 use Rattle.consume_path.specs.Items.{is_held, is_on}
@@ -12,7 +14,6 @@ use Rattle.consume_path.specs.Offers.{has_open_id, has_room, is_unsettled, unset
 use Rattle.consume_path.specs.Offers.{sooner, soonest, rank_of, consumes, is_within, consuming, on_link}
 use Rattle.consume_path.specs.Offers.{deliver_of, consumer_offer}
 use Rattle.consume_path.specs.Kept.{IsLinkFrom, IsUpTo, is_least}
-use Rattle.consume_path.proofs.Passing.{count_fewer}
 
 fewer_on : (link : ℕ) (items : List Delivery) → count_by (unsettled_on link) items ≤ count_by is_unsettled items
 fewer_on link items =
@@ -50,11 +51,6 @@ none_above top id items a lt = more ∙ sym (each items a)
     each (d ∷ ds) a = rw (other d.id a.0) (each ds a.1)
 
 -- no link has a number below the least
-
-pub all_drop : {X : Type 0} (P : X → Type 0) (n : ℕ) (xs : List X) → AllByRecursion P xs → AllByRecursion P (drop n xs)
-all_drop P zero xs a = a
-all_drop P (suc n) [] a = tt
-all_drop P (suc n) (x ∷ xs) a = all_drop P n xs a.1
 
 abbrev IsRankFrom : ℕ → Option Ranked → Type 0
 IsRankFrom low o = IfSome o (λ r. low ≤ r.rank)

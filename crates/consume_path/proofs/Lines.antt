@@ -8,8 +8,8 @@ use Rattle.std.proofs.lemmas.Bool.Decides.{nat_tests}
 use Rattle.open_items.specs.declared.lost.LostItem.{LostItem}
 use Rattle.open_items.specs.declared.lost.LostKind.{LostKind}
 use Rattle.open_items.specs.declared.lost.LostKind.TheVariants.{DeliveryLeft, DeliveryLost}
-use Rattle.open_items.specs.Numbers.{passing_above, passing}
-use Rattle.open_items.proofs.Counted.{numbers_passing}
+use Rattle.open_items.specs.Numbers.{passing}
+use Rattle.open_items.proofs.Counted.{numbers_passing, passing_more}
 use Rattle.consume_path.specs.declared.delivery.Arriving.{Arriving}
 use Rattle.consume_path.specs.declared.delivery.Content.{Content}
 use Rattle.consume_path.specs.declared.delivery.Delivery.{Delivery}
@@ -57,21 +57,6 @@ lines_listed j h (d ∷ ds) a = by d.line refl (lines_listed j h ds a.1)
         ∙ ap (λ i. with_line (item (fate_of d.number h).line i) (lines_of j ds)) a.0.matches.core.id
         ∙ ap (with_line (item_by j (fate_of d.number h))) ih
         ∙ sym (ap (λ l. lines_at j h (map number_of (cond (is_some l) (d ∷ more) more))) e)
-
-passing_more : (t : ℕ → Bool) (low m : ℕ) → passing_above t low (suc m) ≡ passing_above t low m ++ cond (t (low + suc m)) ((low + suc m) ∷ []) []
-passing_more t low zero = refl
-passing_more t low (suc m) = by (t (low + 1)) (passing_more t (low + 1) m)
-  where
-    same : (low + 1) + suc m ≡ low + suc (suc m)
-    same = omega arith
-
-    last : ℕ → List ℕ
-    last k = cond (t k) (k ∷ []) []
-
-    by : (b : Bool) → passing_above t (low + 1) (suc m) ≡ passing_above t (low + 1) m ++ last ((low + 1) + suc m)
-        → cond b ((low + 1) ∷ passing_above t (low + 1) (suc m)) (passing_above t (low + 1) (suc m)) ≡ cond b ((low + 1) ∷ passing_above t (low + 1) m) (passing_above t (low + 1) m) ++ last (low + suc (suc m))
-    by true ih = ap (λ ns. (low + 1) ∷ ns) (ih ∙ ap (λ k. passing_above t (low + 1) m ++ last k) same)
-    by false ih = ih ∙ ap (λ k. passing_above t (low + 1) m ++ last k) same
 
 lines_append : (j : ℕ) (h : List DeliveryEvent) (ms ns : List ℕ) → lines_at j h (ms ++ ns) ≡ lines_at j h ms ++ lines_at j h ns
 lines_append j h [] ns = refl

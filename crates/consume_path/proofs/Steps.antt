@@ -7,8 +7,7 @@ use Rattle.std.specs.Prelude.{not, ◌&&◌, ◌||◌, ◌==◌, nat_lt, filter,
 use Rattle.std.specs.List.{list_any}
 use Rattle.std.specs.Option.{option_map, option_or}
 use Rattle.std.proofs.lemmas.Grind.{common_steps}
-use Rattle.std.proofs.lemmas.List.{drop_more, take-append-drop, take-set, drop-set, length-drop}
-use Rattle.std.proofs.Math.Seq.{take-length}
+use Rattle.std.proofs.lemmas.List.{drop_more, take-append-drop, take-set, drop-set}
 use Rattle.links_10.specs.Recv.{recounted}
 use Rattle.links_10.specs.Send.{advanced}
 use Rattle.open_items.specs.declared.lost.LostKind.TheVariants.{DeliveryLost}
@@ -63,9 +62,6 @@ pub run_more : (n k : ℕ) (s : Settle) (list : List Delivery) (last : ℕ) → 
 run_more n k s list last lt is =
     let less : suc (n - (k + 1)) ≡ n - k = omega arith in
     sym (ap (λ b. cond b (run_to (n - (k + 1)) s list (advanced last 1)) last) is) ∙ ap (λ m. run_to m s list last) less
-
-pub take_rest : {A : Type 0} (n : ℕ) (items : List A) → take (length items - n) (drop n items) ≡ drop n items
-take_rest n items = ap (λ k. take k (drop n items)) (sym (length-drop n items)) ∙ take-length (drop n items)
 
 -- what is closed has nothing to offer
 

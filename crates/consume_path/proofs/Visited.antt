@@ -1,14 +1,11 @@
 -- Changes of some deliveries, where the others are left as they are, and what is counted then.
 use Rattle.std.proofs.Common.{◌≡◌, ◌∙◌, ℕ, ◌+◌, ◌-◌, ◌^◌, ◌≤◌, ◌<◌, List, [], ◌∷◌, ◌++◌, Bool, true}
-use Rattle.std.proofs.Common.{false, refl, sym, ap, subst, arith, map, take, drop, length, get_or}
+use Rattle.std.proofs.Common.{false, refl, sym, ap, subst, arith, map, length, get_or}
 use Rattle.std.proofs.Common.{set}
 use Rattle.std.specs.Prelude.{count_by, is_some, nat_lt}
 use Rattle.std.proofs.lemmas.Bool.Decides.{nat_tests}
-use Rattle.std.proofs.lemmas.List.{map-append, take-append-drop, length-map, length-take-le}
-use Rattle.std.proofs.lemmas.List.{length-append, length-drop, set-get_or}
 use Rattle.std.proofs.lemmas.List.Sums.{sum_by-set, sum_by_push, get_or-le-sum_by}
 use Rattle.std.proofs.lemmas.List.Sums.{count_by-le-length}
-use Rattle.open_items.proofs.Filtered.{changed_more}
 use Rattle.links_10.specs.Recv.{recounted}
 use Rattle.consume_path.specs.declared.delivery.Delivery.{Delivery}
 use Rattle.consume_path.specs.declared.receiving.ReceivingLink.{ReceivingLink}
@@ -17,30 +14,6 @@ use Rattle.consume_path.specs.Links.{counts_on, one_if, one_more, recount}
 use Rattle.consume_path.specs.Kept.{has_line, is_writing, is_owing, is_waiting, tally_of, no_tally, exchanged}
 use Rattle.consume_path.specs.Kept.{counts_of, counts_after, tallied}
 use Rattle.consume_path.specs.Offers.{is_unsettled}
-
--- one more is changed
-
-module _ {X : Type 0} (f : X → X) (items now : List X) (i : ℕ) where
-  pub same_long : i ≤ length items → now ≡ map f (take i items) ++ drop i items → length now ≡ length items
-  same_long le so_far =
-      let parts : length (map f (take i items) ++ drop i items) ≡ length (map f (take i items)) + length (drop i items) = length-append (map f (take i items)) (drop i items) in
-      let front : length (map f (take i items)) ≡ i = length-map (take i items) f ∙ length-take-le i items le in
-      let back : length (drop i items) ≡ length items - i = length-drop i items in
-      omega (arith, ap length so_far)
-
-  pub change_next : (x y : X) → i < length items → now ≡ map f (take i items) ++ drop i items → x ≡ get_or now i x → y ≡ f x → set now i y ≡ map f (take (i + 1) items) ++ drop (i + 1) items
-  change_next x y lt so_far here is =
-      let long : length now ≡ length items = same_long (omega arith) so_far in
-      changed_more f items now i x y (omega arith) so_far (is ∙ ap f here)
-
-  -- one more stays as it is
-  pub stays_next : (x : X) → i < length items → now ≡ map f (take i items) ++ drop i items → x ≡ get_or now i x → f x ≡ x → now ≡ map f (take (i + 1) items) ++ drop (i + 1) items
-  stays_next x lt so_far here same = sym (ap (set now i) here ∙ set-get_or now i x) ∙ change_next x x lt so_far here (sym same)
-
-  -- the rest is left as it is
-  pub ends_early : now ≡ map f (take i items) ++ drop i items → map f (drop i items) ≡ drop i items → now ≡ map f items
-  ends_early so_far same =
-      so_far ∙ ap (λ ds. map f (take i items) ++ ds) (sym same) ∙ sym (map-append f (take i items) (drop i items)) ∙ ap (map f) (take-append-drop i items)
 
 -- what is counted
 

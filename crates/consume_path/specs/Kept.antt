@@ -1,10 +1,11 @@
 -- What is kept beside the deliveries of a life, so that a call visits few of them.
 use Rattle.std.specs.Prelude.{◌≡◌, ℕ, Bool, ◌+◌, ◌-◌, ◌≤◌, ◌==◌, ◌&&◌, true, false, if◌then◌else◌}
-use Rattle.std.specs.Prelude.{List, length, drop, filter, count_by}
+use Rattle.std.specs.Prelude.{List, count_by}
 use Rattle.std.specs.Prelude.{Option, None, Some, IfSome, is_some, nat_lt, nat_le}
-use Rattle.std.specs.List.{AllByRecursion, position}
+use Rattle.std.specs.List.{AllByRecursion}
 use Rattle.std.specs.Option.{option_map}
 use Rattle.links_10.specs.Recv.{recounted}
+use Rattle.open_items.specs.Places.{AllFrom}
 use Rattle.open_items.proofs.Numbered.{Rising}
 use Rattle.consume_path.specs.declared.changes.Change.{Change}
 use Rattle.consume_path.specs.declared.changes.Change.TheVariants.{Delivered, Written, Answered}
@@ -77,19 +78,6 @@ abbrev pub visit_at : Bool → ℕ → ℕ → Visit
 visit_at here place end =
     if here && nat_lt place end then record { from = place; to = place + 1 }
     else record { from = 0; to = end }
-
--- all that pass stand from this place on
-pub record AllFrom (passes : Delivery → Bool) (place : ℕ) (items : List Delivery) : Type 0 where
-  pub within : place ≤ length items
-  pub behind : filter passes (drop place items) ≡ filter passes items
-
-abbrev pub place_at : ℕ → ℕ → Option ℕ → ℕ
-place_at from end None = end
-place_at from end (Some ahead) = from + ahead
-
--- the place of the first that passes, from a place on; else the end
-abbrev pub place_from : (Delivery → Bool) → ℕ → List Delivery → ℕ
-place_from passes from items = place_at from (length items) (position passes (drop from items))
 
 -- the disposition of one delivery by itself
 abbrev pub settle_alone : ℕ → Settle → NextSettle

@@ -4,9 +4,9 @@ ghost use Rattle.std.specs.Prelude.{◌≡◌, ◌&&◌, ◌+◌, ◌^◌, ◌<�
 ghost use Rattle.std.specs.Prelude.{if◌then◌else◌, Some, None, length, ◌≤◌, IfSome, false, ◌||◌};
 ghost use Rattle.std.specs.Prelude.{nat_lt};
 ghost use Rattle.std.specs.List.{AllByRecursion, list_any, position, slice_get};
-ghost use Rattle.consume_path.specs.Kept.{AllFrom, place_at, place_from, is_there, settle_alone};
-ghost use Rattle.consume_path.specs.Kept.{alone_of, only_settle, IsUpTo, is_waiting, counts_of};
-ghost use Rattle.consume_path.specs.Kept.{IsLinkFrom, is_least};
+ghost use Rattle.open_items.specs.Places.{AllFrom, place_at, place_from};
+ghost use Rattle.consume_path.specs.Kept.{is_there, settle_alone, alone_of, only_settle, IsUpTo};
+ghost use Rattle.consume_path.specs.Kept.{is_waiting, counts_of, IsLinkFrom, is_least};
 ghost use Rattle.std.specs.Option.{option_map, option_or};
 ghost use Rattle.consume_path.specs.Items.{owes, is_held, needs_content, is_covered};
 ghost use Rattle.consume_path.specs.Links.{is_to_ask, bytes_in, is_whole, tag_by, is_tagged};
@@ -515,7 +515,7 @@ fn place_at(from: usize, found: Option<usize>, end: usize) -> usize
 }
 
 /// The first place from `from` on whose delivery needs its content, or the end.
-#[tactic(auto, using(crate::proofs::Passing::found_within))]
+#[tactic(auto, using(open_items::proofs::Places::found_within))]
 pub fn needing_from(items: &[Delivery], from: usize) -> usize
     requires { from ≤ length items.now }
     ensures { result ≡ place_from needs_content from items.now }

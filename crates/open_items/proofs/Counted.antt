@@ -1,5 +1,5 @@
 -- A search and a count over a list of items are those over their numbers.
-use Rattle.std.proofs.Common.{◌≡◌, ◌∙◌, ℕ, zero, suc, ◌+◌, ◌≤◌, ◌<◌, List, [], ◌∷◌, Bool, true}
+use Rattle.std.proofs.Common.{◌≡◌, ◌∙◌, ℕ, zero, suc, ◌+◌, ◌≤◌, ◌<◌, List, [], ◌∷◌, ◌++◌, Bool, true}
 use Rattle.std.proofs.Common.{false, refl, sym, ap, subst, arith, cond, map, inl, inr, length, Some}
 use Rattle.std.proofs.Common.{None}
 use Rattle.std.specs.Prelude.{filter, find, count_by, ◌⊎◌}
@@ -95,6 +95,22 @@ module _ {X F : Type 0} (number : X → ℕ) (Matches : X → F → Type 0) (to_
       → Tracks number Matches to_come fate n list → count_by c list ≡ how_many (λ k. t (fate k)) n
   how_many_passing fate n list same only k =
       sym (length-filter c list) ∙ sym (length-map (filter c list) number) ∙ ap length (numbers_passing fate n list same only k)
+
+-- one more number
+pub passing_more : (t : ℕ → Bool) (low m : ℕ) → passing_above t low (suc m) ≡ passing_above t low m ++ cond (t (low + suc m)) ((low + suc m) ∷ []) []
+passing_more t low zero = refl
+passing_more t low (suc m) = by (t (low + 1)) (passing_more t (low + 1) m)
+  where
+    same : (low + 1) + suc m ≡ low + suc (suc m)
+    same = omega arith
+
+    last : ℕ → List ℕ
+    last k = cond (t k) (k ∷ []) []
+
+    by : (b : Bool) → passing_above t (low + 1) (suc m) ≡ passing_above t (low + 1) m ++ last ((low + 1) + suc m)
+        → cond b ((low + 1) ∷ passing_above t (low + 1) (suc m)) (passing_above t (low + 1) (suc m)) ≡ cond b ((low + 1) ∷ passing_above t (low + 1) m) (passing_above t (low + 1) m) ++ last (low + suc (suc m))
+    by true ih = ap (λ ns. (low + 1) ∷ ns) (ih ∙ ap (λ k. passing_above t (low + 1) m ++ last k) same)
+    by false ih = ih ∙ ap (λ k. passing_above t (low + 1) m ++ last k) same
 
 -- the least number that passes
 

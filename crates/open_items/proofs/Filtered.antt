@@ -1,11 +1,12 @@
 -- Lists that are changed in place, and lists of what passes a test.
-use Rattle.std.proofs.Common.{◌≡◌, ◌∙◌, ℕ, ◌+◌, ◌≤◌, ◌<◌, List, [], ◌∷◌, ◌++◌, Bool, true, false}
-use Rattle.std.proofs.Common.{refl, sym, ap, subst, arith, cond, map, Some, take, drop, set, get_or}
-use Rattle.std.proofs.Common.{length}
+use Rattle.std.proofs.Common.{◌≡◌, ◌∙◌, ℕ, zero, suc, ◌+◌, ◌-◌, ◌≤◌, ◌<◌, List, [], ◌∷◌, ◌++◌, Bool}
+use Rattle.std.proofs.Common.{true, false, refl, sym, ap, subst, arith, cond, map, Some, take, drop}
+use Rattle.std.proofs.Common.{set, get_or, length}
 use Rattle.std.specs.Prelude.{filter, find, count_by, ◌||◌, sum_by}
 use Rattle.std.specs.List.{AllByRecursion, list_any}
-use Rattle.std.proofs.lemmas.List.{length-append, length-map, length-take, length-drop}
-use Rattle.std.proofs.lemmas.List.{get_or_default}
+use Rattle.std.proofs.lemmas.List.{length-append, length-map, length-take, length-take-le}
+use Rattle.std.proofs.lemmas.List.{length-drop, get_or_default, set-get_or, map-append}
+use Rattle.std.proofs.lemmas.List.{take-append-drop}
 use Rattle.std.proofs.lemmas.List.Edits.{map_over_more}
 use Rattle.std.proofs.lemmas.List.Sums.{length-filter, sum_by-cons}
 
@@ -15,6 +16,29 @@ changed_more {X} f xs ys i d x here so_far is =
     let long : length (map f (take i xs) ++ drop i xs) ≡ length xs = simp (length-append, length-map, length-take, length-drop) (omega arith) in
     let within : i < length xs = omega (arith, ap length so_far, long) in
     ap (set ys i) is ∙ map_over_more f xs ys i (get_or ys i d) within so_far (get_or_default ys i d (get_or ys i d) here)
+
+-- the first i are changed in place
+module _ {X : Type 0} (f : X → X) (items now : List X) (i : ℕ) where
+  pub same_long : i ≤ length items → now ≡ map f (take i items) ++ drop i items → length now ≡ length items
+  same_long le so_far =
+      let parts : length (map f (take i items) ++ drop i items) ≡ length (map f (take i items)) + length (drop i items) = length-append (map f (take i items)) (drop i items) in
+      let front : length (map f (take i items)) ≡ i = length-map (take i items) f ∙ length-take-le i items le in
+      let back : length (drop i items) ≡ length items - i = length-drop i items in
+      omega (arith, ap length so_far)
+
+  pub change_next : (x y : X) → i < length items → now ≡ map f (take i items) ++ drop i items → x ≡ get_or now i x → y ≡ f x → set now i y ≡ map f (take (i + 1) items) ++ drop (i + 1) items
+  change_next x y lt so_far here is =
+      let long : length now ≡ length items = same_long (omega arith) so_far in
+      changed_more f items now i x y (omega arith) so_far (is ∙ ap f here)
+
+  -- one more stays as it is
+  pub stays_next : (x : X) → i < length items → now ≡ map f (take i items) ++ drop i items → x ≡ get_or now i x → f x ≡ x → now ≡ map f (take (i + 1) items) ++ drop (i + 1) items
+  stays_next x lt so_far here same = sym (ap (set now i) here ∙ set-get_or now i x) ∙ change_next x x lt so_far here (sym same)
+
+  -- the rest is left as it is
+  pub ends_early : now ≡ map f (take i items) ++ drop i items → map f (drop i items) ≡ drop i items → now ≡ map f items
+  ends_early so_far same =
+      so_far ∙ ap (λ xs. map f (take i items) ++ xs) (sym same) ∙ sym (map-append f (take i items) (drop i items)) ∙ ap (map f) (take-append-drop i items)
 
 module _ {X : Type 0} (o : X → Bool) where
   -- what is left out stays out
@@ -126,6 +150,11 @@ all_filter {X} o P (x ∷ xs) a = by (o x) (all_filter o P xs a.1)
     by : (b : Bool) → AllByRecursion P (filter o xs) → AllByRecursion P (cond b (x ∷ filter o xs) (filter o xs))
     by true ih = (a.0, ih)
     by false ih = ih
+
+pub all_drop : {X : Type 0} (P : X → Type 0) (n : ℕ) (xs : List X) → AllByRecursion P xs → AllByRecursion P (drop n xs)
+all_drop P zero xs a = a
+all_drop P (suc n) [] a = tt
+all_drop P (suc n) (x ∷ xs) a = all_drop P n xs a.1
 
 pub all_weaker : {X : Type 0} (P Q : X → Type 0) → ((x : X) → P x → Q x) → (xs : List X) → AllByRecursion P xs → AllByRecursion Q xs
 all_weaker P Q w [] a = tt

@@ -3,6 +3,7 @@ use Rattle.std.proofs.Common.{◌≡◌, ◌∙◌, ℕ, ◌+◌, ◌≤◌, ◌
 use Rattle.std.proofs.Common.{refl, sym, ap, subst, arith, cond, map, inl, inr, Some}
 use Rattle.std.specs.Prelude.{filter, find, ◌⊎◌}
 use Rattle.std.specs.List.{AllByRecursion}
+use Rattle.std.proofs.lemmas.List.{map-id}
 
 module _ {X : Type 0} (number : X → ℕ) where
   -- the numbers rise, from above low
@@ -26,6 +27,14 @@ module _ {X : Type 0} (number : X → ℕ) where
       by : (b : Bool) → Rising (number x) (filter o (map f xs)) → Rising low (cond b (f x ∷ filter o (map f xs)) (filter o (map f xs)))
       by true ih = (subst (λ n. low < n) (sym (same x)) r.0, subst (λ n. Rising n (filter o (map f xs))) (sym (same x)) ih)
       by false ih = let up : low < number x = r.0 in rising_weaker low (number x) _ (omega arith) ih
+
+  pub rising_map : (f : X → X) → ((x : X) → number (f x) ≡ number x) → (low : ℕ) (xs : List X) → Rising low xs → Rising low (map f xs)
+  rising_map f same low [] r = tt
+  rising_map f same low (x ∷ xs) r =
+      (subst (λ n. low < n) (sym (same x)) r.0, subst (λ n. Rising n (map f xs)) (sym (same x)) (rising_map f same (number x) xs r.1))
+
+  pub rising_filter : (o : X → Bool) (low : ℕ) (xs : List X) → Rising low xs → Rising low (filter o xs)
+  rising_filter o low xs r = subst (λ ys. Rising low (filter o ys)) (map-id xs) (rising_each o (λ x. x) (λ x. refl) low xs r)
 
   pub rising_push : (low n : ℕ) (xs : List X) (y : X) → low ≤ n → AllByRecursion (λ x. number x ≤ n) xs → number y ≡ n + 1 → Rising low xs → Rising low (xs ++ y ∷ [])
   rising_push low n [] y le a e r = (omega arith, tt)

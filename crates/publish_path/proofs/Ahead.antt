@@ -14,6 +14,9 @@ use Rattle.std.proofs.lemmas.List.Sums.{passes_at_first, prefix_len-le-length}
 use Rattle.std.proofs.Math.ListN.{drop_of_length-le}
 use Rattle.open_items.proofs.Filtered.{all_filter}
 use Rattle.open_items.proofs.Numbered.{Rising}
+use Rattle.open_items.proofs.Places.{map_same, none_counted, place_is, any_found, found_before}
+use Rattle.open_items.proofs.Places.{from_on, from_fewer, from_find, from_any, from_filter}
+use Rattle.open_items.proofs.Places.{from_same, IsBetween}
 use Rattle.publish_path.specs.declared.publish.Publish.{Publish}
 use Rattle.publish_path.specs.declared.publish.Confirm.{Confirm}
 use Rattle.publish_path.specs.declared.publish.NextFrame.{NextFrame}
@@ -22,6 +25,7 @@ use Rattle.publish_path.specs.declared.publish.Outcome.{Outcome}
 use Rattle.publish_path.specs.declared.counts.Counts.{Counts}
 use Rattle.publish_path.specs.declared.send_links.SendingLink.{SendingLink}
 use Rattle.open_items.specs.Numbers.{has_any}
+use Rattle.open_items.specs.Places.{AllFrom, place_from}
 use Rattle.open_items.specs.declared.lost.LostKind.{LostKind}
 use Rattle.publish_path.specs.Publishes.{is_open, is_begun, is_sending, is_settled, is_told, told, takes, framed}
 use Rattle.publish_path.specs.Publishes.{takes_return, owes_return, returned, confirmed, reported}
@@ -30,10 +34,8 @@ use Rattle.publish_path.specs.Offers.{can_begin, frame_of, next_frame_of, waits_
 use Rattle.publish_path.specs.Offers.{lines_of, alone, next_confirm_of, goes_on_returning, waits_return}
 use Rattle.publish_path.specs.Offers.{return_of, next_return_of, is_ready}
 use Rattle.publish_path.specs.Searches.{found_confirm}
-use Rattle.publish_path.specs.Kept.{number_of, Climbs, AllFrom, is_unsent, is_unsettled, owes, has_line}
-use Rattle.publish_path.specs.Kept.{counts_of, passed_by, place_from}
-use Rattle.publish_path.proofs.Places.{from_on, from_fewer, from_find, from_any, from_filter, from_same}
-use Rattle.publish_path.proofs.Places.{none_counted, place_is, any_found, found_before, map_same}
+use Rattle.publish_path.specs.Kept.{number_of, Climbs, is_unsent, is_unsettled, owes, has_line}
+use Rattle.publish_path.specs.Kept.{counts_of, passed_by}
 use Rattle.publish_path.proofs.Ordered.{before_same, behind_same}
 use Rattle.publish_path.proofs.Visited.{told_same, confirmed_same, past_same, framed_other}
 use Rattle.publish_path.proofs.Visited.{returned_other, takes_number, returns_number}
@@ -206,12 +208,6 @@ none_owed counts items e none =
     confirm_seen items ∙ none_due (filter is_unanswered items) (all_filter is_unanswered _ items (none_counted owes items (sym (ap (λ (k : Counts). k.owed) e) ∙ none)))
 
 -- the publishes that a confirm may cover stand between these places
-pub record IsBetween (f : Publish → Publish) (from to : ℕ) (items : List Publish) : Type 0 where
-  pub order : from ≤ to
-  pub within : to ≤ length items
-  pub before : map f (take from items) ≡ take from items
-  pub behind : map f (drop to items) ≡ drop to items
-
 pub confirm_between : (c : Confirm) (high from to : ℕ) (items seen : List Publish) → AllFrom is_unsettled from items → Climbs 0 high items → seen ≡ items → to ≡ place_from (passed_by c) from seen → IsBetween (confirmed c) from to items
 confirm_between c high from to items seen a climbs same e =
     record { order = omega (arith, at); within = omega (arith, at, most); before = from_same is_unsettled (confirmed c) from items (confirmed_same c) a; behind = by (nat_lt to (length items)) refl }

@@ -10,6 +10,7 @@ use Rattle.std.proofs.lemmas.Grind.{common_steps}
 use Rattle.std.proofs.lemmas.Bool.Decides.{nat_tests}
 use Rattle.open_items.proofs.Filtered.{all_filter, all_both}
 use Rattle.open_items.proofs.Numbered.{Rising, Has, all_has, has_above, rising_weaker}
+use Rattle.open_items.proofs.Numbered.{rising_filter}
 use Rattle.publish_path.specs.declared.publish.Publish.{Publish}
 use Rattle.publish_path.specs.declared.publish.Confirm.{Confirm}
 use Rattle.publish_path.specs.declared.publish.Answer.{Answer}
@@ -24,7 +25,7 @@ use Rattle.publish_path.specs.Journal.{Fate, fate_of, is_done, is_to_return}
 use Rattle.publish_path.specs.Laws.{IsUnanswered, IsLawfulConfirm, IsReturned, AreReturned}
 use Rattle.publish_path.specs.Searches.{run_from}
 use Rattle.publish_path.specs.Kept.{number_of, Above, Climbs}
-use Rattle.publish_path.proofs.Ordered.{rising_filter, climbs_map, climbs_filter, climbs_push}
+use Rattle.publish_path.proofs.Ordered.{climbs_map, climbs_filter, climbs_push}
 use Rattle.publish_path.proofs.Steps.{run_is}
 use Rattle.publish_path.proofs.Matching.{AnswerIs, settled_test, return_test}
 use Rattle.publish_path.proofs.Keeping.{follows, Stands, stand, to_do_comes}
@@ -344,7 +345,7 @@ decided_owed Settled confirm answered outcome cut m open_still some = absurd (cc
 
 pub confirm_is_offered : (life : ℕ) (h : List PublishEvent) (n : ℕ) → IsUnanswered h n → is_some (fate_of n h).outcome ≡ true → AreReturned h n → is_some (next_confirm_of (after_events life h).list) ≡ true
 confirm_is_offered life h n u decided are =
-    is_offered n us (rising_filter is_unanswered 0 list (follows life h).rising)
+    is_offered n us (rising_filter number_of is_unanswered 0 list (follows life h).rising)
     (clears us (all_filter is_unanswered (Stands h) list (stand life h)) (all_passing is_unanswered list))
     (has_kept is_unanswered (Stands h) n (λ p s e. unanswered_there h n p e s u) list (stand life h) (unanswered_has life h n u))
   where

@@ -13,14 +13,15 @@ use Rattle.std.proofs.lemmas.List.Sums.{passes_at_first}
 use Rattle.std.proofs.Math.Nat.{mod-eq_of_lt}
 use Rattle.std.proofs.Math.ListN.{drop_of_length-le}
 use Rattle.links_10.specs.Send.{past}
-use Rattle.open_items.proofs.Filtered.{all_filter, all_push}
+use Rattle.open_items.specs.Places.{place_from}
+use Rattle.open_items.proofs.Filtered.{all_filter, all_push, all_drop}
 use Rattle.open_items.proofs.Numbered.{Rising}
+use Rattle.open_items.proofs.Places.{place_is, map_same}
 use Rattle.publish_path.specs.declared.publish.Publish.{Publish}
 use Rattle.publish_path.specs.declared.publish.Outcome.{Outcome}
 use Rattle.publish_path.specs.Publishes.{is_open, is_told, told, in_range, has_no_outcome, framed}
 use Rattle.publish_path.specs.Publishes.{new_publish}
-use Rattle.publish_path.specs.Kept.{number_of, IsBelow, IsOther, AreApart, HaveIds, place_from, end_at}
-use Rattle.publish_path.proofs.Places.{place_is, map_same}
+use Rattle.publish_path.specs.Kept.{number_of, IsBelow, IsOther, AreApart, HaveIds, end_at}
 use Rattle.publish_path.proofs.Ordered.{all_at}
 use Rattle.publish_path.proofs.Visited.{told_same}
 
@@ -194,11 +195,6 @@ told_id first next None b within bound below e = absurd (let no : false ≡ true
 told_id first next (Some id) true within bound below e = let under : id < next = below in ap Some (same_id id first (omega arith) within e)
 told_id first next (Some id) false within bound below e = absurd (cc)
 
-all_drop : (P : Publish → Type 0) (ps : List Publish) (i : ℕ) → AllByRecursion P ps → AllByRecursion P (drop i ps)
-all_drop P ps zero a = a
-all_drop P [] (suc i) a = tt
-all_drop P (p ∷ ps) (suc i) a = all_drop P ps i a.1
-
 apart_at : (next : ℕ) (ps : List Publish) (i : ℕ) (d : Publish) → AreApart next ps → i < length ps → AllByRecursion (λ q. IsOther (get_or ps i d).id q.id) (drop (i + 1) ps)
 apart_at next [] i d a lt = absurd (omega arith)
 apart_at next (p ∷ ps) zero d a lt = a.1
@@ -210,7 +206,7 @@ apart_at next (p ∷ ps) (suc i) d a lt =
 alone_told : (first : ℕ) (outcome : Outcome) (place next settled : ℕ) (items : List Publish) → first < 2 ^ 32 → HaveIds next items → settled ≤ length items → place ≡ place_from (is_told first first) settled items → place < length items → map (told first first outcome) (drop (place + 1) items) ≡ drop (place + 1) items
 alone_told first outcome place next settled items within h le e lt =
     map_same (told first first outcome) (drop (place + 1) items)
-    (same (drop (place + 1) items) (all_drop _ items (place + 1) (below_all next items h.apart)) (subst (λ k. AllByRecursion (λ q. IsOther k q.id) (drop (place + 1) items)) named (apart_at next items place d h.apart lt)))
+    (same (drop (place + 1) items) (all_drop _ (place + 1) items (below_all next items h.apart)) (subst (λ k. AllByRecursion (λ q. IsOther k q.id) (drop (place + 1) items)) named (apart_at next items place d h.apart lt)))
   where
     d : Publish
     d = new_publish 0 0 None [] []

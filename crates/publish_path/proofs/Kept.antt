@@ -6,18 +6,18 @@ use Rattle.std.specs.List.{AllByRecursion}
 use Rattle.std.proofs.lemmas.Grind.{common_steps}
 use Rattle.std.proofs.lemmas.List.Sums.{sum_by_push}
 use Rattle.open_items.proofs.Filtered.{all_map, all_filter, all_weaker, all_push, count_by-filter}
-use Rattle.open_items.proofs.Numbered.{Rising, rising_push}
+use Rattle.open_items.specs.Places.{AllFrom, place_from}
+use Rattle.open_items.proofs.Numbered.{Rising, rising_push, rising_map, rising_filter}
+use Rattle.open_items.proofs.Places.{from_start, from_on, from_map, from_push}
 use Rattle.publish_path.specs.declared.publish.Publish.{Publish}
 use Rattle.publish_path.specs.declared.changes.Change.{Change}
 use Rattle.publish_path.specs.declared.changes.Change.TheVariants.{Framed, Told, LinkLost}
 use Rattle.publish_path.specs.declared.changes.Change.TheVariants.{Confirmed, Reported, Returned}
 use Rattle.publish_path.specs.declared.counts.Counts.{Counts}
 use Rattle.publish_path.specs.Publishes.{is_open, next_number, changed, new_publish}
-use Rattle.publish_path.specs.Kept.{number_of, Climbs, AllFrom, IsKept, is_unsent, is_unsettled, owes}
-use Rattle.publish_path.specs.Kept.{has_line, counts_of, place_from}
-use Rattle.publish_path.proofs.Places.{from_start, from_on, from_map, from_push}
-use Rattle.publish_path.proofs.Ordered.{rising_map, rising_filter, climbs_map, climbs_filter}
-use Rattle.publish_path.proofs.Ordered.{climbs_push}
+use Rattle.publish_path.specs.Kept.{number_of, Climbs, IsKept, is_unsent, is_unsettled, owes, has_line}
+use Rattle.publish_path.specs.Kept.{counts_of}
+use Rattle.publish_path.proofs.Ordered.{climbs_map, climbs_filter, climbs_push}
 use Rattle.publish_path.proofs.Steps.{held_seen, bytes_seen, returns_seen, add_count, add_bytes}
 use Rattle.publish_path.proofs.Steps.{add_returns}
 use Rattle.publish_path.proofs.Visited.{same_counts}
@@ -66,7 +66,7 @@ counts_seen items =
 
 pub kept_open : {items : List Publish} {n c f s : ℕ} {counts : Counts} → IsKept items n c counts f s → {now : List Publish} → now ≡ filter is_open items → IsKept now n c counts 0 0
 kept_open {items} {n} {c} {f} {s} {counts} k {now} e = subst (λ ps. IsKept ps n c counts 0 0) (sym e) (record {
-  rising = rising_filter is_open 0 items k.rising;
+  rising = rising_filter number_of is_open 0 items k.rising;
   given = all_filter is_open _ items k.given;
   climbs = climbs_filter is_open 0 c items k.climbs;
   fewer = k.fewer;
@@ -149,7 +149,7 @@ stays_settled (Returned number) p e = e
 
 pub kept_change : {items : List Publish} {n c f s : ℕ} {counts : Counts} → IsKept items n c counts f s → (change : Change) → {now : List Publish} {later : Counts} → now ≡ map (changed change) items → later ≡ counts_of now → IsKept now n c later f s
 kept_change {items} {n} {c} {f} {s} {counts} k change {now} {later} e counted = record {
-  rising = subst (Rising number_of 0) (sym e) (rising_map (changed change) (same_number change) 0 items k.rising);
+  rising = subst (Rising number_of 0) (sym e) (rising_map number_of (changed change) (same_number change) 0 items k.rising);
   given = subst (AllByRecursion (λ p. p.number ≤ n)) (sym e) (all_map (changed change) _ _ (λ p le. subst (λ m. m ≤ n) (sym (same_number change p)) le) items k.given);
   climbs = subst (Climbs 0 c) (sym e) (climbs_map (changed change) (same_confirm change) 0 c items k.climbs);
   fewer = k.fewer;

@@ -1,5 +1,4 @@
 pub mod Joined
-pub mod Places
 pub mod Ordered
 pub mod Steps
 pub mod Visited

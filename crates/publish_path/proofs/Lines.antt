@@ -7,8 +7,8 @@ use Rattle.std.specs.List.{AllByRecursion}
 use Rattle.std.proofs.lemmas.Bool.Decides.{nat_tests}
 use Rattle.open_items.specs.declared.lost.LostItem.{LostItem}
 use Rattle.open_items.specs.declared.lost.LostKind.{LostKind}
-use Rattle.open_items.specs.Numbers.{passing_above, passing}
-use Rattle.open_items.proofs.Counted.{numbers_passing}
+use Rattle.open_items.specs.Numbers.{passing}
+use Rattle.open_items.proofs.Counted.{numbers_passing, passing_more}
 use Rattle.publish_path.specs.declared.publish.Publish.{Publish}
 use Rattle.publish_path.specs.Publishes.{PublishEvent, TakenUp, FrameSent, OutcomeCame, LinkGone}
 use Rattle.publish_path.specs.Publishes.{ConfirmSent, LinesTold, ReturnSent, after_events, next_number}
@@ -52,21 +52,6 @@ lines_listed j h (p ∷ ps) a = by p.line refl (lines_listed j h ps a.1)
         ap (λ l. with_line (option_map (item_by j p.number) l) (lines_of j ps)) a.0.matches.line
         ∙ ap (with_line (line_by j h p.number)) ih
         ∙ sym (ap (λ l. lines_at j h (map number_of (cond (is_some l) (p ∷ more) more))) e)
-
-passing_more : (t : ℕ → Bool) (low m : ℕ) → passing_above t low (suc m) ≡ passing_above t low m ++ cond (t (low + suc m)) ((low + suc m) ∷ []) []
-passing_more t low zero = refl
-passing_more t low (suc m) = by (t (low + 1)) (passing_more t (low + 1) m)
-  where
-    same : (low + 1) + suc m ≡ low + suc (suc m)
-    same = omega arith
-
-    last : ℕ → List ℕ
-    last k = cond (t k) (k ∷ []) []
-
-    by : (b : Bool) → passing_above t (low + 1) (suc m) ≡ passing_above t (low + 1) m ++ last ((low + 1) + suc m)
-        → cond b ((low + 1) ∷ passing_above t (low + 1) (suc m)) (passing_above t (low + 1) (suc m)) ≡ cond b ((low + 1) ∷ passing_above t (low + 1) m) (passing_above t (low + 1) m) ++ last (low + suc (suc m))
-    by true ih = ap (λ ns. (low + 1) ∷ ns) (ih ∙ ap (λ k. passing_above t (low + 1) m ++ last k) same)
-    by false ih = ih ∙ ap (λ k. passing_above t (low + 1) m ++ last k) same
 
 lines_append : (j : ℕ) (h : List PublishEvent) (ms ns : List ℕ) → lines_at j h (ms ++ ns) ≡ lines_at j h ms ++ lines_at j h ns
 lines_append j h [] ns = refl

@@ -4,23 +4,13 @@ use Rattle.std.proofs.Common.{false, refl, sym, ap, subst, arith, Option, Some, 
 use Rattle.std.proofs.Common.{get_or, length, drop, take}
 use Rattle.std.specs.Prelude.{filter}
 use Rattle.std.specs.List.{AllByRecursion}
-use Rattle.std.proofs.lemmas.List.{map-id}
-use Rattle.open_items.proofs.Numbered.{Rising, rising_each, rising_above}
+use Rattle.open_items.proofs.Numbered.{Rising, rising_above}
 use Rattle.publish_path.specs.declared.publish.Publish.{Publish}
 use Rattle.publish_path.specs.Publishes.{next_number}
 use Rattle.publish_path.specs.Offers.{number_or}
 use Rattle.publish_path.specs.Kept.{number_of, Above, Climbs}
 
 -- numbers
-
-pub rising_map : (f : Publish → Publish) → ((p : Publish) → (f p).number ≡ p.number) → (low : ℕ) (ps : List Publish) → Rising number_of low ps → Rising number_of low (map f ps)
-rising_map f same low [] r = tt
-rising_map f same low (p ∷ ps) r =
-    (subst (λ n. low < n) (sym (same p)) r.0, subst (λ n. Rising number_of n (map f ps)) (sym (same p)) (rising_map f same p.number ps r.1))
-
-pub rising_filter : (o : Publish → Bool) (low : ℕ) (ps : List Publish) → Rising number_of low ps → Rising number_of low (filter o ps)
-rising_filter o low ps r =
-    subst (λ qs. Rising number_of low (filter o qs)) (map-id ps) (rising_each number_of o (λ p. p) (λ p. refl) low ps r)
 
 pub all_at : (P : Publish → Type 0) (ps : List Publish) (i : ℕ) (d : Publish) → AllByRecursion P ps → i < length ps → P (get_or ps i d)
 all_at P [] i d a lt = absurd (omega arith)

@@ -1,13 +1,12 @@
 -- A change of each publish, as the open ones see it.
 use Rattle.std.proofs.Common.{◌≡◌, ◌∙◌, ℕ, suc, List, [], ◌∷◌, ◌++◌, Bool, true, false, Option}
 use Rattle.std.proofs.Common.{Some, None, map, take, drop, refl, sym, subst, ap, arith, cond, ◌≤◌}
-use Rattle.std.proofs.Common.{◌-◌, ◌+◌, length}
+use Rattle.std.proofs.Common.{◌+◌, length}
 use Rattle.std.specs.Prelude.{filter, find, not, ◌||◌, ◌&&◌, is_some, count_by, if◌then◌else◌}
 use Rattle.std.specs.Option.{option_map, option_or}
 use Rattle.std.specs.List.{list_any, AllByRecursion, take_while, prefix_len}
 use Rattle.std.proofs.lemmas.Grind.{common_steps}
-use Rattle.std.proofs.lemmas.List.{length-take-le, length-drop}
-use Rattle.std.proofs.Math.Seq.{take-length}
+use Rattle.std.proofs.lemmas.List.{length-take-le}
 use Rattle.std.proofs.Math.ListN.{drop_of_length-le}
 use Rattle.publish_path.specs.declared.publish.NextFrame.{NextFrame}
 use Rattle.publish_path.specs.Links.{link_of, can_send}
@@ -245,9 +244,6 @@ add_returns items p e =
 -- the front of what is left has the length that is asked for
 pub length_part : (n : ℕ) (rest : List ℕ) → n ≤ length rest → length (take n rest) ≡ n
 length_part n rest le = length-take-le n rest le
-
-pub take_rest : {A : Type 0} (n : ℕ) (items : List A) → take (length items - n) (drop n items) ≡ drop n items
-take_rest n items = ap (λ k. take k (drop n items)) (sym (length-drop n items)) ∙ take-length (drop n items)
 
 pub drop_past : (n : ℕ) (bytes : List ℕ) → length bytes ≤ n → drop n bytes ≡ []
 drop_past n bytes le = drop_of_length-le bytes le

@@ -1,15 +1,14 @@
 -- Changes of some publishes, where the others are left as they are.
-use Rattle.std.proofs.Common.{◌≡◌, ◌∙◌, ℕ, ◌+◌, ◌-◌, ◌^◌, ◌≤◌, ◌<◌, List, [], ◌∷◌, ◌++◌, Bool, true}
-use Rattle.std.proofs.Common.{false, refl, sym, ap, subst, arith, Option, Some, None, cond, map, take}
+use Rattle.std.proofs.Common.{◌≡◌, ◌∙◌, ℕ, ◌+◌, ◌-◌, ◌^◌, ◌≤◌, ◌<◌, List, [], ◌∷◌, Bool, true}
+use Rattle.std.proofs.Common.{false, refl, sym, ap, subst, arith, Option, Some, None, cond, map}
 use Rattle.std.proofs.Common.{drop, length, get_or, set}
 use Rattle.std.specs.Prelude.{not, ◌&&◌, ◌||◌, ◌==◌, nat_le, nat_lt}
 use Rattle.std.specs.List.{AllByRecursion, sum_by}
 use Rattle.std.proofs.lemmas.Grind.{common_steps}
 use Rattle.std.proofs.lemmas.Bool.Decides.{nat_tests}
-use Rattle.std.proofs.lemmas.List.{map-append, take-append-drop, drop_more, length-map}
-use Rattle.std.proofs.lemmas.List.{length-take-le, length-append, length-drop}
+use Rattle.std.proofs.lemmas.List.{drop_more}
 use Rattle.std.proofs.lemmas.List.Sums.{sum_by-set, get_or-le-sum_by, count_by-le-length}
-use Rattle.open_items.proofs.Filtered.{changed_more}
+use Rattle.open_items.proofs.Places.{map_same}
 use Rattle.publish_path.specs.declared.publish.Publish.{Publish}
 use Rattle.publish_path.specs.declared.publish.Confirm.{Confirm}
 use Rattle.publish_path.specs.declared.publish.Outcome.{Outcome}
@@ -24,7 +23,6 @@ use Rattle.publish_path.specs.Offers.{is_held, held_size}
 use Rattle.publish_path.specs.Offers.{number_or}
 use Rattle.publish_path.specs.Kept.{Above, Climbs, is_unsettled, owes, has_line, is_past, count_of}
 use Rattle.publish_path.specs.Kept.{counts_of, exchanged, CanExchange}
-use Rattle.publish_path.proofs.Places.{map_same}
 use Rattle.publish_path.proofs.Ordered.{climbs_drop}
 use Rattle.publish_path.proofs.Steps.{held_before, size_before}
 
@@ -103,25 +101,6 @@ takes_number number p e = grind (arith, nat_tests, common_steps)
 
 pub returns_number : (number : ℕ) (p : Publish) → takes_return number p ≡ true → p.number ≡ number
 returns_number number p e = grind (arith, nat_tests, common_steps)
-
--- one more is changed
-
-pub same_long : (f : Publish → Publish) (items now : List Publish) (i : ℕ) → i ≤ length items → now ≡ map f (take i items) ++ drop i items → length now ≡ length items
-same_long f items now i le so_far =
-    let parts : length (map f (take i items) ++ drop i items) ≡ length (map f (take i items)) + length (drop i items) = length-append (map f (take i items)) (drop i items) in
-    let front : length (map f (take i items)) ≡ i = length-map (take i items) f ∙ length-take-le i items le in
-    let back : length (drop i items) ≡ length items - i = length-drop i items in
-    omega (arith, ap length so_far)
-
-pub change_next : (f : Publish → Publish) (items now : List Publish) (i : ℕ) (x y : Publish) → i < length items → now ≡ map f (take i items) ++ drop i items → x ≡ get_or now i x → y ≡ f x → set now i y ≡ map f (take (i + 1) items) ++ drop (i + 1) items
-change_next f items now i x y lt so_far here is =
-    let long : length now ≡ length items = same_long f items now i (omega arith) so_far in
-    changed_more f items now i x y (omega arith) so_far (is ∙ ap f here)
-
--- the rest is left as it is
-pub ends_early : (f : Publish → Publish) (items now : List Publish) (i : ℕ) → now ≡ map f (take i items) ++ drop i items → map f (drop i items) ≡ drop i items → now ≡ map f items
-ends_early f items now i so_far same =
-    so_far ∙ ap (λ ps. map f (take i items) ++ ps) (sym same) ∙ sym (map-append f (take i items) (drop i items)) ∙ ap (map f) (take-append-drop i items)
 
 -- what is counted
 

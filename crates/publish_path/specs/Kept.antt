@@ -1,8 +1,9 @@
 -- What is kept beside the publishes of a life, so that a call visits few of them.
 use Rattle.std.specs.Prelude.{◌≡◌, ℕ, ◌+◌, ◌-◌, ◌%◌, ◌≤◌, ◌<◌, ◌^◌, ◌&&◌, Bool, not, List, [], ◌∷◌}
-use Rattle.std.specs.Prelude.{length, drop, filter, map, count_by, Option, Some, None, false}
+use Rattle.std.specs.Prelude.{filter, map, count_by, Option, Some, None, false}
 use Rattle.std.specs.Prelude.{nat_lt, is_some, if◌then◌else◌}
-use Rattle.std.specs.List.{AllByRecursion, position}
+use Rattle.std.specs.List.{AllByRecursion}
+use Rattle.open_items.specs.Places.{AllFrom}
 use Rattle.open_items.proofs.Numbered.{Rising}
 use Rattle.publish_path.specs.declared.publish.Publish.{Publish}
 use Rattle.publish_path.specs.declared.publish.Confirm.{Confirm}
@@ -42,19 +43,6 @@ is_unsent p = is_sending p.place
 
 abbrev pub is_unsettled : Publish → Bool
 is_unsettled p = not (is_settled p.answer)
-
--- all that pass stand from this place on
-pub record AllFrom (passes : Publish → Bool) (place : ℕ) (items : List Publish) : Type 0 where
-  pub within : place ≤ length items
-  pub behind : filter passes (drop place items) ≡ filter passes items
-
-abbrev pub place_at : ℕ → ℕ → Option ℕ → ℕ
-place_at from end None = end
-place_at from end (Some ahead) = from + ahead
-
--- the place of the first that passes, from a place on; else the end
-abbrev pub place_from : (Publish → Bool) → ℕ → List Publish → ℕ
-place_from passes from items = place_at from (length items) (position passes (drop from items))
 
 -- the end of what an outcome may tell, from the first place that it tells: the next place, where no
 -- other publish has its delivery-id

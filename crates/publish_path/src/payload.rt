@@ -31,7 +31,7 @@ pub struct Pieces<'a> {
 }
 
 /// The bytes from a place on.
-#[tactic(auto, using(crate::proofs::Steps::take_rest, crate::proofs::Steps::drop_past))]
+#[tactic(auto, using(std::proofs::lemmas::List::take_rest, crate::proofs::Steps::drop_past))]
 fn part_from(bytes: &[u8], at: usize) -> &[u8]
     ensures { result.now ≡ drop at bytes.now }
 {

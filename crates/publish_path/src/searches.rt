@@ -4,12 +4,12 @@ ghost use Rattle.std.specs.Prelude.{◌≡◌, ◌+◌, ◌<◌, ◌≤◌, find
 ghost use Rattle.std.specs.Prelude.{◌&&◌, true, IfSome, option_copied};
 ghost use Rattle.std.specs.Option.{option_map};
 ghost use Rattle.std.specs.List.{list_any, position};
+ghost use Rattle.open_items.specs.Places.{AllFrom, place_at, place_from};
 ghost use Rattle.publish_path.specs.Publishes.{is_begun, takes, is_told, takes_return};
 ghost use Rattle.publish_path.specs.Offers.{can_begin, owed_ack, is_owed, is_unanswered, waits_on};
 ghost use Rattle.publish_path.specs.Offers.{is_pending, number_or, alone, goes_on_returning};
 ghost use Rattle.publish_path.specs.Offers.{waits_return, is_ready};
-ghost use Rattle.publish_path.specs.Kept.{AllFrom, is_unsent, is_unsettled, passed_by, place_at};
-ghost use Rattle.publish_path.specs.Kept.{place_from};
+ghost use Rattle.publish_path.specs.Kept.{is_unsent, is_unsettled, passed_by};
 ghost use Rattle.publish_path.specs.Searches.{found_confirm};
 
 use crate::changes::{is_link, is_publish_sending, is_publish_told, is_return_owed};
@@ -218,7 +218,7 @@ fn first_place_returning(items: &[Publish], number: u64) -> Option<usize>
 }
 
 /// The first place from `from` on whose publish has frames that are still to be sent, or the end.
-#[tactic(auto, using(crate::proofs::Places::found_within))]
+#[tactic(auto, using(open_items::proofs::Places::found_within))]
 pub fn unsent_from(items: &[Publish], from: usize) -> usize
     requires { from ≤ length items.now }
     ensures { result ≡ place_from is_unsent from items.now }
@@ -227,7 +227,7 @@ pub fn unsent_from(items: &[Publish], from: usize) -> usize
 }
 
 /// The first place from `from` on whose publish isn't settled, or the end.
-#[tactic(auto, using(crate::proofs::Places::found_within))]
+#[tactic(auto, using(open_items::proofs::Places::found_within))]
 pub fn unsettled_from(items: &[Publish], from: usize) -> usize
     requires { from ≤ length items.now }
     ensures { result ≡ place_from is_unsettled from items.now }
@@ -236,7 +236,7 @@ pub fn unsettled_from(items: &[Publish], from: usize) -> usize
 }
 
 /// The first place from `from` on whose transfer is in the range and has no outcome, or the end.
-#[tactic(auto, using(crate::proofs::Places::found_within))]
+#[tactic(auto, using(open_items::proofs::Places::found_within))]
 pub fn told_from(items: &[Publish], from: usize, first: u32, last: u32) -> usize
     requires { from ≤ length items.now }
     ensures { result ≡ place_from (is_told first last) from items.now }
@@ -245,7 +245,7 @@ pub fn told_from(items: &[Publish], from: usize, first: u32, last: u32) -> usize
 }
 
 /// The first place from `from` on whose number is above all that the confirm covers, or the end.
-#[tactic(auto, using(crate::proofs::Places::found_within))]
+#[tactic(auto, using(open_items::proofs::Places::found_within))]
 pub fn past_from(items: &[Publish], from: usize, confirm: Confirm) -> usize
     requires { from ≤ length items.now }
     ensures { result ≡ place_from (passed_by confirm) from items.now }
@@ -254,7 +254,7 @@ pub fn past_from(items: &[Publish], from: usize, confirm: Confirm) -> usize
 }
 
 /// The place of the publish with this number, if frames of it are still to be sent; else the end.
-#[tactic(auto, using(crate::proofs::Places::found_within))]
+#[tactic(auto, using(open_items::proofs::Places::found_within))]
 pub fn taking_from(items: &[Publish], from: usize, number: u64) -> usize
     requires { from ≤ length items.now }
     ensures { result ≡ place_from (takes number) from items.now }
@@ -267,7 +267,7 @@ pub fn taking_from(items: &[Publish], from: usize, number: u64) -> usize
 }
 
 /// The place of the publish with this number, if it is to be returned; else the end.
-#[tactic(auto, using(crate::proofs::Places::found_within))]
+#[tactic(auto, using(open_items::proofs::Places::found_within))]
 pub fn returning_from(items: &[Publish], from: usize, number: u64) -> usize
     requires { from ≤ length items.now }
     ensures { result ≡ place_from (takes_return number) from items.now }

@@ -6,7 +6,7 @@ use Rattle.consume_path.specs.Links.{recount}
 use Rattle.std.proofs.lemmas.List.{take-append-drop}
 use Rattle.consume_path.specs.Items.{changed}
 use Rattle.consume_path.specs.Kept.{counts_of, tally_of, tallied}
-use Rattle.consume_path.proofs.Visited.{same_long, change_next, stays_next, ends_early}
+use Rattle.open_items.proofs.Filtered.{same_long, change_next, stays_next, ends_early}
 use Rattle.consume_path.proofs.Visited.{tallied_is, counts_is}
 use Rattle.consume_path.proofs.Kept.{recount_same}
 use Rattle.consume_path.proofs.visits.change_between.Goals as goal

@@ -2,7 +2,8 @@ use Rattle.std.proofs.Common.{◌≡◌, ◌∙◌, ◌≤◌, ◌<◌, ◌++◌
 use Rattle.std.proofs.Common.{arith}
 use Rattle.std.proofs.lemmas.List.{take-append-drop}
 use Rattle.publish_path.specs.Publishes.{changed}
-use Rattle.publish_path.proofs.Visited.{same_long, change_next, ends_early, exchanged_is, can_exchange}
+use Rattle.open_items.proofs.Filtered.{same_long, change_next, ends_early}
+use Rattle.publish_path.proofs.Visited.{exchanged_is, can_exchange}
 use Rattle.publish_path.proofs.visits.change_between.Goals as goal
 
 pub loop-place-init : goal.loop-place-init

@@ -5,7 +5,7 @@ use Rattle.consume_path.specs.Kept.{is_tagged, is_there}
 use Rattle.consume_path.specs.declared.changes.Change.TheVariants.{Answered}
 use Rattle.consume_path.specs.declared.places.Visit.{Visit}
 use Rattle.consume_path.specs.Items.{changed}
-use Rattle.consume_path.proofs.Passing.{IsBetween}
+use Rattle.open_items.proofs.Places.{IsBetween}
 use Rattle.consume_path.proofs.Kept.{kept_change, change_view, answered_between}
 use Rattle.consume_path.proofs.deliveries.Deliveries.answered.Goals as goal
 

@@ -1,4 +1,4 @@
-use Rattle.consume_path.specs.Kept.{place_from}
+use Rattle.open_items.specs.Places.{place_from}
 use Rattle.consume_path.specs.Items.{needs_content}
 use Rattle.std.proofs.Common.{◌∙◌, ap, refl}
 use Rattle.consume_path.proofs.Kept.{kept_change, kept_front, change_view}

@@ -6,7 +6,7 @@ use Rattle.consume_path.specs.declared.changes.Change.TheVariants.{Delivered}
 use Rattle.consume_path.specs.declared.places.Visit.{Visit}
 use Rattle.consume_path.specs.Items.{changed, is_open}
 use Rattle.consume_path.specs.Deliveries.{DeliveryState, with_list}
-use Rattle.consume_path.proofs.Passing.{IsBetween}
+use Rattle.open_items.proofs.Places.{IsBetween}
 use Rattle.consume_path.proofs.Kept.{kept_delivered, change_view, delivered_between}
 use Rattle.consume_path.proofs.deliveries.Deliveries.commit_deliver.Goals as goal
 

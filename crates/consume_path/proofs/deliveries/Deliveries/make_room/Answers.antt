@@ -1,7 +1,8 @@
 use Rattle.std.specs.List.{AllByRecursion}
 use Rattle.std.proofs.Common.{◌∙◌, ap, subst}
 use Rattle.consume_path.specs.Items.{needs_content}
-use Rattle.consume_path.specs.Kept.{IsLinkFrom, IsUpTo, place_from}
+use Rattle.open_items.specs.Places.{place_from}
+use Rattle.consume_path.specs.Kept.{IsLinkFrom, IsUpTo}
 use Rattle.consume_path.proofs.Kept.{kept_open, kept_front, kept_bounds}
 use Rattle.consume_path.proofs.deliveries.Deliveries.make_room.Goals as goal
 

@@ -1,4 +1,4 @@
-use Rattle.consume_path.specs.Kept.{place_from}
+use Rattle.open_items.specs.Places.{place_from}
 use Rattle.consume_path.specs.Items.{needs_content}
 use Rattle.std.proofs.Common.{◌≡◌, ◌∙◌, ap, arith, length, subst, sym, refl}
 use Rattle.std.specs.List.{slice_get}
@@ -7,7 +7,7 @@ use Rattle.consume_path.specs.Kept.{is_writing, is_there}
 use Rattle.consume_path.specs.declared.changes.Change.TheVariants.{Written}
 use Rattle.consume_path.specs.declared.places.Visit.{Visit}
 use Rattle.consume_path.specs.Items.{changed}
-use Rattle.consume_path.proofs.Passing.{IsBetween}
+use Rattle.open_items.proofs.Places.{IsBetween}
 use Rattle.consume_path.proofs.Kept.{kept_change, kept_front, change_view, written_between}
 use Rattle.consume_path.proofs.deliveries.Deliveries.written.Goals as goal
 

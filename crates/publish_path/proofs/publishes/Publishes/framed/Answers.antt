@@ -2,7 +2,8 @@ use Rattle.std.proofs.Common.{◌∙◌, ap, sym, subst}
 use Rattle.std.specs.Prelude.{find, IsSome, ◌&&◌, ◌==◌}
 use Rattle.publish_path.specs.declared.changes.Change.TheVariants.{Framed}
 use Rattle.publish_path.specs.Publishes.{PublishState, takes}
-use Rattle.publish_path.specs.Kept.{is_unsent, place_from}
+use Rattle.open_items.specs.Places.{place_from}
+use Rattle.publish_path.specs.Kept.{is_unsent}
 use Rattle.publish_path.proofs.Ahead.{frame_alone}
 use Rattle.publish_path.proofs.Ids.{ids_framed, neither}
 use Rattle.publish_path.proofs.Kept.{kept_change, kept_front}

@@ -1,6 +1,7 @@
 use Rattle.std.proofs.Common.{◌∙◌, ap, refl}
 use Rattle.publish_path.specs.declared.changes.Change.TheVariants.{LinkLost}
-use Rattle.publish_path.specs.Kept.{is_unsent, is_unsettled, place_from}
+use Rattle.open_items.specs.Places.{place_from}
+use Rattle.publish_path.specs.Kept.{is_unsent, is_unsettled}
 use Rattle.publish_path.specs.Publishes.{link_lost}
 use Rattle.publish_path.proofs.Ids.{ids_map}
 use Rattle.publish_path.proofs.Kept.{kept_change, kept_front, kept_settled}

@@ -1,5 +1,6 @@
 use Rattle.std.proofs.Common.{◌∙◌, ap}
-use Rattle.publish_path.specs.Kept.{is_unsent, is_unsettled, place_from}
+use Rattle.open_items.specs.Places.{place_from}
+use Rattle.publish_path.specs.Kept.{is_unsent, is_unsettled}
 use Rattle.publish_path.proofs.Ids.{ids_open}
 use Rattle.publish_path.proofs.Kept.{kept_open, kept_front, kept_settled}
 use Rattle.publish_path.proofs.publishes.Publishes.make_room.Goals as goal

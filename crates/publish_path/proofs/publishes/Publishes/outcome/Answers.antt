@@ -3,7 +3,8 @@ use Rattle.std.specs.Prelude.{nat_lt}
 use Rattle.std.specs.List.{list_any}
 use Rattle.publish_path.specs.declared.changes.Change.TheVariants.{Told}
 use Rattle.publish_path.specs.Publishes.{PublishState, is_told, told}
-use Rattle.publish_path.specs.Kept.{is_unsettled, place_from, end_at}
+use Rattle.open_items.specs.Places.{place_from}
+use Rattle.publish_path.specs.Kept.{is_unsettled, end_at}
 use Rattle.publish_path.proofs.Ahead.{told_behind, any_told_ahead}
 use Rattle.publish_path.proofs.Ids.{ids_map, told_end}
 use Rattle.publish_path.proofs.Kept.{kept_change, kept_settled}

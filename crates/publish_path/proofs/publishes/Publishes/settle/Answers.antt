@@ -1,6 +1,7 @@
 use Rattle.std.proofs.Common.{◌∙◌, ap, refl}
 use Rattle.publish_path.specs.declared.changes.Change.TheVariants.{Confirmed}
-use Rattle.publish_path.specs.Kept.{is_unsettled, place_from}
+use Rattle.open_items.specs.Places.{place_from}
+use Rattle.publish_path.specs.Kept.{is_unsettled}
 use Rattle.publish_path.proofs.Ahead.{confirm_between}
 use Rattle.publish_path.specs.Publishes.{confirmed}
 use Rattle.publish_path.proofs.Ids.{ids_map}
