@@ -1,4 +1,3 @@
-pub mod Agreeing
 pub mod FrameLaws
 pub mod FrameParts
 pub mod FrameScanning

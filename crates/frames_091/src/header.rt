@@ -1,10 +1,10 @@
 //! The protocol header.
 
-ghost use Rattle.std.specs.Prelude.{◌≡◌, ℕ, ◌≤◌, length};
+ghost use Rattle.std.specs.Prelude.{◌≡◌};
 ghost use Rattle.wire_base.specs.Scans.{IfBad, Scans};
-ghost use Rattle.frames_091.specs.Headers.{IsHeader, IsHeaderFault, agreed_with, header_scan};
+ghost use Rattle.frames_091.specs.Headers.{IsHeader, IsHeaderFault, header_scan};
 
-use wire_base::{At, Scan};
+use wire_base::{At, Scan, agreed_len};
 
 /// A byte that isn't that of the protocol header.
 #[derive(Clone, Copy, Debug, PartialEq, Eq)]
@@ -13,22 +13,8 @@ pub struct NotHeader;
 /// The letters AMQP, and the version 0-0-9-1 (AMQP 0-9-1 4.2.2).
 const HEADER: [u8; 8] = [b'A', b'M', b'Q', b'P', 0, 0, 9, 1];
 
-/// How many bytes agree with the header, from the front on.
-#[tactic(auto, using(crate::proofs::Agreeing::agrees_more, crate::proofs::Agreeing::agrees_no_more, crate::proofs::Agreeing::agrees_all))]
-fn agreed_len(bytes: &[u8], header: &[u8]) -> usize
-    ensures { result ≡ agreed_with header.now bytes.now }
-{
-    let most = bytes.len().min(header.len());
-    for i in 0..most {
-        if bytes[i] != header[i] {
-            return i;
-        }
-    }
-    most
-}
-
 /// The scan, as a function of the bytes.
-#[tactic(auto, unfolding(crate::specs::Headers::header_scan))]
+#[tactic(auto, unfolding(crate::specs::Headers::header_scan, wire_base::specs::Headers::first_header))]
 fn first_header(bytes: &[u8]) -> Scan<(), At<NotHeader>>
     ensures { result ≡ header_scan bytes.now }
 {

@@ -14,7 +14,7 @@ use Rattle.frames_091.specs.declared.frame.FrameFault.TheVariants as fault
 use Rattle.frames_091.specs.declared.frame.Kind91.{Kind91}
 use Rattle.frames_091.specs.declared.header.NotHeader.{NotHeader}
 use Rattle.frames_091.specs.FrameScan.{bad, frame_in, kind_of, scan_of, scan_kind, stated_size}
-use Rattle.frames_091.specs.Headers.{agreed_with, header_bytes, header_scan}
+use Rattle.frames_091.specs.Headers.{header_bytes, header_scan}
 use Rattle.machine_091.specs.declared.unit.Unit91.{Unit91}
 use Rattle.machine_091.specs.declared.unit.Unit91.TheVariants as unit91
 use Rattle.close_translate.specs.declared.codes.TheConstants.{FRAME_ERROR}
@@ -61,13 +61,13 @@ frame_within limit (b ∷ bs) = kind (kind_of b)
 
 -- a header that agrees in eight places has as many bytes
 header_within : (bytes : List ℕ) → IsWithin {C = ℕ} bytes (as_unit (λ header. unit91.Protocol) 0 (header_scan bytes))
-unfolding header_scan
-header_within bytes = tests (eqb (agreed_with header_bytes bytes) 8) (eqb (agreed_with header_bytes bytes) (length bytes)) refl
+unfolding header_scan wire.first_header
+header_within bytes = tests (eqb (wire.agreed_with header_bytes bytes) 8) (eqb (wire.agreed_with header_bytes bytes) (length bytes)) refl
   where
-    tests : (x y : Bool) → eqb (agreed_with header_bytes bytes) 8 ≡ x
-        → IsWithin {C = ℕ} bytes (as_unit (λ header. unit91.Protocol) 0 (cond {A = Scan (Unit {0}) (At NotHeader)} x (Whole tt 8) (cond {A = Scan (Unit {0}) (At NotHeader)} y More (Bad (record { fault = record {}; at = agreed_with header_bytes bytes })))))
+    tests : (x y : Bool) → eqb (wire.agreed_with header_bytes bytes) 8 ≡ x
+        → IsWithin {C = ℕ} bytes (as_unit (λ header. unit91.Protocol) 0 (cond {A = Scan (Unit {0}) (At NotHeader)} x (Whole tt 8) (cond {A = Scan (Unit {0}) (At NotHeader)} y More (Bad (record { fault = record {}; at = wire.agreed_with header_bytes bytes })))))
     tests true y e =
-        let eight : agreed_with header_bytes bytes ≡ 8 = eqb-true _ _ e in
+        let eight : wire.agreed_with header_bytes bytes ≡ 8 = eqb-true _ _ e in
         (omega arith, omega (arith, (common_prefix_len-le nat_eq bytes header_bytes).0))
     tests false true e = tt
     tests false false e = tt
@@ -83,7 +83,7 @@ unfolding scan_of
 no_frame limit = refl
 
 no_header : header_scan [] ≡ More
-unfolding header_scan
+unfolding header_scan wire.first_header
 no_header = refl
 
 pub none_found : (a : Awaited91) → unit_scan a [] ≡ More

@@ -26,12 +26,16 @@ use amqp_10::call_10;
 use amqp_091::Calls091;
 use call::{Answer, Call, bytes_of, first_number, four_numbers};
 use content_091::content_laws;
+use frames_10::frame_laws10;
 use frames_091::frame_laws;
 use gate::{Edge, call_gate};
 use gate_capture::{capture_laws, replay_laws};
+use link_table::handle_laws;
+use links_10::{link_laws, recv_link_laws};
 use machine_091::connection_laws;
 use methods_091::method_laws;
 use paths::Paths;
+use performatives_10::perf_laws;
 use property_map::map_laws;
 use scripted::Scripted;
 use sections_10::message_laws;
@@ -112,13 +116,18 @@ fn answer_lines<R: Input + Print + AllocGlobal>(rt: &R, program: &mut Program) -
 /// The laws of the libraries, each called once.
 fn know_laws() {
     value_laws();
+    perf_laws();
     message_laws();
     map_laws();
     frame_laws();
+    frame_laws10();
     table_laws();
     method_laws();
     content_laws();
     connection_laws();
+    link_laws();
+    recv_link_laws();
+    handle_laws();
     capture_laws();
     replay_laws();
 }
