@@ -242,10 +242,10 @@ def writer_text(name, fields, struct, public):
     lines = "\n".join("    " + adder(field) for field in fields)
     rows = f"{snake(name)}_rows"
     return f"""/// What is written of the fields of {name}.
-{'pub(crate) ' if public else ''}fn {snake(name)}_written(alloc: Global, perf: &{struct}) -> Result<ValueList, Memory>
+{'pub(crate) ' if public else ''}fn {snake(name)}_written(alloc: Global, perf: &{struct}) -> Result<Fields, Memory>
     ensures {{ IfOk result (λ f. f ≡ written {rows} ({snake(name)}_fields perf.now)) }}
 {{
-    let mut fields = ValueList::empty(alloc);
+    let mut fields = Fields::empty(alloc);
 {lines}
     Ok(fields)
 }}"""
@@ -405,7 +405,7 @@ def module_file(module, types):
     collected = sorted(set(re.findall(r"\b(push_\w+)\((?:alloc, )?&mut fields", body)))
     joined = ", ".join(collected)
     collecting = f"use crate::collecting::{joined if len(collected) == 1 else f'{{{joined}}}'};\n" if collected else ""
-    values = "SpelledList, Value10, ValueList" if "Value10::" in body else "SpelledList, ValueList"
+    values = "Fields, SpelledList, Value10" if "Value10::" in body else "Fields, SpelledList"
     return f"""//! {GENERATED}
 //!
 //! {HEADS[module]}

@@ -13,15 +13,11 @@ ghost use Rattle.performatives_10.specs.Writing.{written_field};
 use crate::composing::{error_value, source_value, state_value, target_value};
 use crate::performative::{Error10, Source10, State, Target10};
 use std::alloc::Global;
-use types_10::{Value10, ValueList};
+use types_10::{Fields, Value10};
 use wire_base::Memory;
 
 /// Adds a boolean, which is absent where it equals its default.
-pub(crate) fn push_unless_default(
-    fields: &mut ValueList,
-    b: bool,
-    default: bool,
-) -> Result<(), Memory>
+pub(crate) fn push_unless_default(fields: &mut Fields, b: bool, default: bool) -> Result<(), Memory>
     ensures { OnOk result (fields.new ≡ fields.old
         ++ written_field (defaults (boolean default)) (a_boolean b) ∷ []) }
 {
@@ -35,7 +31,7 @@ pub(crate) fn push_unless_default(
 /// Adds an error, or null.
 pub(crate) fn push_maybe_error(
     alloc: Global,
-    fields: &mut ValueList,
+    fields: &mut Fields,
     error: &Option<Error10>,
 ) -> Result<(), Memory>
     ensures { OnOk result (fields.new ≡ fields.old ++ maybe error_tree error.now ∷ []) }
@@ -49,7 +45,7 @@ pub(crate) fn push_maybe_error(
 /// Adds a state of a delivery, or null.
 pub(crate) fn push_maybe_state(
     alloc: Global,
-    fields: &mut ValueList,
+    fields: &mut Fields,
     state: &Option<State>,
 ) -> Result<(), Memory>
     ensures { OnOk result (fields.new ≡ fields.old ++ maybe state_tree state.now ∷ []) }
@@ -63,7 +59,7 @@ pub(crate) fn push_maybe_state(
 /// Adds a source, or null.
 pub(crate) fn push_maybe_source(
     alloc: Global,
-    fields: &mut ValueList,
+    fields: &mut Fields,
     source: &Option<Source10>,
 ) -> Result<(), Memory>
     ensures { OnOk result (fields.new ≡ fields.old ++ maybe source_tree source.now ∷ []) }
@@ -77,7 +73,7 @@ pub(crate) fn push_maybe_source(
 /// Adds a target, or null.
 pub(crate) fn push_maybe_target(
     alloc: Global,
-    fields: &mut ValueList,
+    fields: &mut Fields,
     target: &Option<Target10>,
 ) -> Result<(), Memory>
     ensures { OnOk result (fields.new ≡ fields.old ++ maybe target_tree target.now ∷ []) }

@@ -12,21 +12,15 @@ use crate::collecting::push_maybe_error;
 use crate::composites::{ACCEPTED, ERROR, MODIFIED, RECEIVED, REJECTED, RELEASED, SOURCE, TARGET};
 use crate::performative::{Error10, Source10, State, Target10};
 use std::alloc::Global;
-use types_10::{Inner, Value10, ValueList};
+use types_10::{Fields, Inner, Value10};
 use wire_base::Memory;
 
 /// The list of these fields behind this descriptor, without the nulls at its end.
-pub(crate) fn composite_value(
-    alloc: Global,
-    code: u64,
-    fields: ValueList,
-) -> Result<Value10, Memory>
+pub(crate) fn composite_value(alloc: Global, code: u64, fields: Fields) -> Result<Value10, Memory>
     ensures { IfOk result (λ v. value_tree v ≡ composite code fields) }
 {
-    let mut list = fields;
-    list.trim();
-    let list = Inner::new(alloc, Value10::List(list))?;
     let descriptor = Inner::new(alloc, Value10::Ulong(code))?;
+    let list = Inner::new(alloc, Value10::List(fields.into_list()))?;
     Ok(Value10::Described(descriptor, list))
 }
 
@@ -34,13 +28,13 @@ pub(crate) fn composite_value(
 fn bare_value(alloc: Global, code: u64) -> Result<Value10, Memory>
     ensures { IfOk result (λ v. value_tree v ≡ composite code []) }
 {
-    composite_value(alloc, code, ValueList::empty(alloc))
+    composite_value(alloc, code, Fields::empty(alloc))
 }
 
 pub(crate) fn error_value(alloc: Global, error: &Error10) -> Result<Value10, Memory>
     ensures { IfOk result (λ v. value_tree v ≡ error_tree error.now) }
 {
-    let mut fields = ValueList::empty(alloc);
+    let mut fields = Fields::empty(alloc);
     fields.push_symbol(alloc, &error.condition)?;
     fields.push_maybe_string(alloc, &error.description)?;
     composite_value(alloc, ERROR, fields)
@@ -50,7 +44,7 @@ fn rejected_value(alloc: Global, error: &Option<Error10>) -> Result<Value10, Mem
     ensures { IfOk result (λ v. value_tree v ≡ composite rejected_code
         (maybe error_tree error.now ∷ [])) }
 {
-    let mut fields = ValueList::empty(alloc);
+    let mut fields = Fields::empty(alloc);
     push_maybe_error(alloc, &mut fields, error)?;
     composite_value(alloc, REJECTED, fields)
 }
@@ -70,7 +64,7 @@ pub(crate) fn state_value(alloc: Global, state: &State) -> Result<Value10, Memor
 pub(crate) fn source_value(alloc: Global, source: &Source10) -> Result<Value10, Memory>
     ensures { IfOk result (λ v. value_tree v ≡ source_tree source.now) }
 {
-    let mut fields = ValueList::empty(alloc);
+    let mut fields = Fields::empty(alloc);
     fields.push_maybe_string(alloc, &source.address)?;
     fields.push_maybe_uint(source.durable)?;
     fields.push_maybe_symbol(alloc, &source.expiry_policy)?;
@@ -88,7 +82,7 @@ pub(crate) fn source_value(alloc: Global, source: &Source10) -> Result<Value10, 
 pub(crate) fn target_value(alloc: Global, target: &Target10) -> Result<Value10, Memory>
     ensures { IfOk result (λ v. value_tree v ≡ target_tree target.now) }
 {
-    let mut fields = ValueList::empty(alloc);
+    let mut fields = Fields::empty(alloc);
     fields.push_maybe_string(alloc, &target.address)?;
     fields.push_maybe_uint(target.durable)?;
     fields.push_maybe_symbol(alloc, &target.expiry_policy)?;

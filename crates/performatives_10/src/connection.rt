@@ -18,7 +18,7 @@ use crate::getting::{
 use crate::kind::PerfKind;
 use crate::performative::{Close, Open, Perf};
 use std::alloc::Global;
-use types_10::{SpelledList, Value10, ValueList};
+use types_10::{Fields, SpelledList, Value10};
 use wire_base::{Memory, Stop};
 
 /// The fields of open.
@@ -60,10 +60,10 @@ pub(crate) fn open_of(alloc: Global, fields: &SpelledList<'_>) -> Result<Perf, S
 }
 
 /// What is written of the fields of open.
-pub(crate) fn open_written(alloc: Global, perf: &Open) -> Result<ValueList, Memory>
+pub(crate) fn open_written(alloc: Global, perf: &Open) -> Result<Fields, Memory>
     ensures { IfOk result (λ f. f ≡ written open_rows (open_fields perf.now)) }
 {
-    let mut fields = ValueList::empty(alloc);
+    let mut fields = Fields::empty(alloc);
     fields.push_string(alloc, &perf.container_id)?;
     fields.push_maybe_string(alloc, &perf.hostname)?;
     fields.push(Value10::Uint(perf.max_frame_size))?;
@@ -86,10 +86,10 @@ pub(crate) fn close_of(alloc: Global, fields: &SpelledList<'_>) -> Result<Perf, 
 }
 
 /// What is written of the fields of close.
-pub(crate) fn close_written(alloc: Global, perf: &Close) -> Result<ValueList, Memory>
+pub(crate) fn close_written(alloc: Global, perf: &Close) -> Result<Fields, Memory>
     ensures { IfOk result (λ f. f ≡ written close_rows (close_fields perf.now)) }
 {
-    let mut fields = ValueList::empty(alloc);
+    let mut fields = Fields::empty(alloc);
     push_maybe_error(alloc, &mut fields, &perf.error)?;
     Ok(fields)
 }

@@ -23,7 +23,7 @@ use crate::getting::{
 use crate::kind::PerfKind;
 use crate::performative::{Attach, Detach, Disposition, Flow, Perf, Transfer};
 use std::alloc::Global;
-use types_10::{SpelledList, Value10, ValueList};
+use types_10::{Fields, SpelledList, Value10};
 use wire_base::{Memory, Stop};
 
 /// The fields of attach.
@@ -67,10 +67,10 @@ pub(crate) fn attach_of(alloc: Global, fields: &SpelledList<'_>) -> Result<Perf,
 }
 
 /// What is written of the fields of attach.
-pub(crate) fn attach_written(alloc: Global, perf: &Attach) -> Result<ValueList, Memory>
+pub(crate) fn attach_written(alloc: Global, perf: &Attach) -> Result<Fields, Memory>
     ensures { IfOk result (λ f. f ≡ written attach_rows (attach_fields perf.now)) }
 {
-    let mut fields = ValueList::empty(alloc);
+    let mut fields = Fields::empty(alloc);
     fields.push_string(alloc, &perf.name)?;
     fields.push(Value10::Uint(perf.handle))?;
     fields.push(Value10::Boolean(perf.role))?;
@@ -119,10 +119,10 @@ pub(crate) fn flow_of(alloc: Global, fields: &SpelledList<'_>) -> Result<Perf, S
 }
 
 /// What is written of the fields of flow.
-pub(crate) fn flow_written(alloc: Global, perf: &Flow) -> Result<ValueList, Memory>
+pub(crate) fn flow_written(alloc: Global, perf: &Flow) -> Result<Fields, Memory>
     ensures { IfOk result (λ f. f ≡ written flow_rows (flow_fields perf.now)) }
 {
-    let mut fields = ValueList::empty(alloc);
+    let mut fields = Fields::empty(alloc);
     fields.push_maybe_uint(perf.next_incoming_id)?;
     fields.push(Value10::Uint(perf.incoming_window))?;
     fields.push(Value10::Uint(perf.next_outgoing_id))?;
@@ -169,10 +169,10 @@ pub(crate) fn transfer_of(alloc: Global, fields: &SpelledList<'_>) -> Result<Per
 }
 
 /// What is written of the fields of transfer.
-pub(crate) fn transfer_written(alloc: Global, perf: &Transfer) -> Result<ValueList, Memory>
+pub(crate) fn transfer_written(alloc: Global, perf: &Transfer) -> Result<Fields, Memory>
     ensures { IfOk result (λ f. f ≡ written transfer_rows (transfer_fields perf.now)) }
 {
-    let mut fields = ValueList::empty(alloc);
+    let mut fields = Fields::empty(alloc);
     fields.push(Value10::Uint(perf.handle))?;
     fields.push_maybe_uint(perf.delivery_id)?;
     fields.push_maybe_binary(alloc, &perf.delivery_tag)?;
@@ -211,10 +211,10 @@ pub(crate) fn disposition_of(
 }
 
 /// What is written of the fields of disposition.
-pub(crate) fn disposition_written(alloc: Global, perf: &Disposition) -> Result<ValueList, Memory>
+pub(crate) fn disposition_written(alloc: Global, perf: &Disposition) -> Result<Fields, Memory>
     ensures { IfOk result (λ f. f ≡ written disposition_rows (disposition_fields perf.now)) }
 {
-    let mut fields = ValueList::empty(alloc);
+    let mut fields = Fields::empty(alloc);
     fields.push(Value10::Boolean(perf.role))?;
     fields.push(Value10::Uint(perf.first))?;
     fields.push_maybe_uint(perf.last)?;
@@ -239,10 +239,10 @@ pub(crate) fn detach_of(alloc: Global, fields: &SpelledList<'_>) -> Result<Perf,
 }
 
 /// What is written of the fields of detach.
-pub(crate) fn detach_written(alloc: Global, perf: &Detach) -> Result<ValueList, Memory>
+pub(crate) fn detach_written(alloc: Global, perf: &Detach) -> Result<Fields, Memory>
     ensures { IfOk result (λ f. f ≡ written detach_rows (detach_fields perf.now)) }
 {
-    let mut fields = ValueList::empty(alloc);
+    let mut fields = Fields::empty(alloc);
     fields.push(Value10::Uint(perf.handle))?;
     push_unless_default(&mut fields, perf.closed, false)?;
     push_maybe_error(alloc, &mut fields, &perf.error)?;

@@ -23,7 +23,7 @@ use crate::performative::{
     Perf, SaslChallenge, SaslInit, SaslMechanisms, SaslOutcome, SaslResponse,
 };
 use std::alloc::Global;
-use types_10::{SpelledList, Value10, ValueList};
+use types_10::{Fields, SpelledList, Value10};
 use wire_base::{Memory, Stop};
 
 /// The fields of sasl-mechanisms.
@@ -41,10 +41,10 @@ pub(crate) fn sasl_mechanisms_of(
 pub(crate) fn sasl_mechanisms_written(
     alloc: Global,
     perf: &SaslMechanisms,
-) -> Result<ValueList, Memory>
+) -> Result<Fields, Memory>
     ensures { IfOk result (λ f. f ≡ written sasl_mechanisms_rows (sasl_mechanisms_fields perf.now)) }
 {
-    let mut fields = ValueList::empty(alloc);
+    let mut fields = Fields::empty(alloc);
     fields.push_value(alloc, &perf.mechanisms)?;
     Ok(fields)
 }
@@ -65,10 +65,10 @@ pub(crate) fn sasl_init_of(alloc: Global, fields: &SpelledList<'_>) -> Result<Pe
 }
 
 /// What is written of the fields of sasl-init.
-pub(crate) fn sasl_init_written(alloc: Global, perf: &SaslInit) -> Result<ValueList, Memory>
+pub(crate) fn sasl_init_written(alloc: Global, perf: &SaslInit) -> Result<Fields, Memory>
     ensures { IfOk result (λ f. f ≡ written sasl_init_rows (sasl_init_fields perf.now)) }
 {
-    let mut fields = ValueList::empty(alloc);
+    let mut fields = Fields::empty(alloc);
     fields.push_symbol(alloc, &perf.mechanism)?;
     fields.push_maybe_binary(alloc, &perf.initial_response)?;
     fields.push_maybe_string(alloc, &perf.hostname)?;
@@ -87,13 +87,10 @@ pub(crate) fn sasl_challenge_of(
 }
 
 /// What is written of the fields of sasl-challenge.
-pub(crate) fn sasl_challenge_written(
-    alloc: Global,
-    perf: &SaslChallenge,
-) -> Result<ValueList, Memory>
+pub(crate) fn sasl_challenge_written(alloc: Global, perf: &SaslChallenge) -> Result<Fields, Memory>
     ensures { IfOk result (λ f. f ≡ written sasl_challenge_rows (sasl_challenge_fields perf.now)) }
 {
-    let mut fields = ValueList::empty(alloc);
+    let mut fields = Fields::empty(alloc);
     fields.push_binary(alloc, &perf.challenge)?;
     Ok(fields)
 }
@@ -110,10 +107,10 @@ pub(crate) fn sasl_response_of(
 }
 
 /// What is written of the fields of sasl-response.
-pub(crate) fn sasl_response_written(alloc: Global, perf: &SaslResponse) -> Result<ValueList, Memory>
+pub(crate) fn sasl_response_written(alloc: Global, perf: &SaslResponse) -> Result<Fields, Memory>
     ensures { IfOk result (λ f. f ≡ written sasl_response_rows (sasl_response_fields perf.now)) }
 {
-    let mut fields = ValueList::empty(alloc);
+    let mut fields = Fields::empty(alloc);
     fields.push_binary(alloc, &perf.response)?;
     Ok(fields)
 }
@@ -134,10 +131,10 @@ pub(crate) fn sasl_outcome_of(
 }
 
 /// What is written of the fields of sasl-outcome.
-pub(crate) fn sasl_outcome_written(alloc: Global, perf: &SaslOutcome) -> Result<ValueList, Memory>
+pub(crate) fn sasl_outcome_written(alloc: Global, perf: &SaslOutcome) -> Result<Fields, Memory>
     ensures { IfOk result (λ f. f ≡ written sasl_outcome_rows (sasl_outcome_fields perf.now)) }
 {
-    let mut fields = ValueList::empty(alloc);
+    let mut fields = Fields::empty(alloc);
     fields.push(Value10::Ubyte(perf.code))?;
     fields.push_maybe_binary(alloc, &perf.additional_data)?;
     Ok(fields)

@@ -16,7 +16,7 @@ use crate::getting::{both, error_at, mapping_at, needed_uint, symbols_at, uint_o
 use crate::kind::PerfKind;
 use crate::performative::{Begin, End, Perf};
 use std::alloc::Global;
-use types_10::{SpelledList, Value10, ValueList};
+use types_10::{Fields, SpelledList, Value10};
 use wire_base::{Memory, Stop};
 
 /// The fields of begin.
@@ -45,10 +45,10 @@ pub(crate) fn begin_of(alloc: Global, fields: &SpelledList<'_>) -> Result<Perf, 
 }
 
 /// What is written of the fields of begin.
-pub(crate) fn begin_written(alloc: Global, perf: &Begin) -> Result<ValueList, Memory>
+pub(crate) fn begin_written(alloc: Global, perf: &Begin) -> Result<Fields, Memory>
     ensures { IfOk result (λ f. f ≡ written begin_rows (begin_fields perf.now)) }
 {
-    let mut fields = ValueList::empty(alloc);
+    let mut fields = Fields::empty(alloc);
     fields.push_maybe_ushort(perf.remote_channel)?;
     fields.push(Value10::Uint(perf.next_outgoing_id))?;
     fields.push(Value10::Uint(perf.incoming_window))?;
@@ -69,10 +69,10 @@ pub(crate) fn end_of(alloc: Global, fields: &SpelledList<'_>) -> Result<Perf, St
 }
 
 /// What is written of the fields of end.
-pub(crate) fn end_written(alloc: Global, perf: &End) -> Result<ValueList, Memory>
+pub(crate) fn end_written(alloc: Global, perf: &End) -> Result<Fields, Memory>
     ensures { IfOk result (λ f. f ≡ written end_rows (end_fields perf.now)) }
 {
-    let mut fields = ValueList::empty(alloc);
+    let mut fields = Fields::empty(alloc);
     push_maybe_error(alloc, &mut fields, &perf.error)?;
     Ok(fields)
 }

@@ -12,7 +12,7 @@ use crate::kind::{PerfKind, code_of};
 use crate::performative::Perf;
 use crate::{connection, link, sasl, session};
 use std::alloc::Global;
-use types_10::{Value10, ValueList, has_spelling, put_value};
+use types_10::{Fields, Value10, has_spelling, put_value};
 use wire_base::{ByteText, Memory};
 
 /// The kind of a performative.
@@ -38,7 +38,7 @@ fn kind_of(perf: &Perf) -> PerfKind
 }
 
 /// What is written of the fields.
-fn perf_written(alloc: Global, perf: &Perf) -> Result<ValueList, Memory>
+fn perf_written(alloc: Global, perf: &Perf) -> Result<Fields, Memory>
     ensures { IfOk result (λ f. f ≡ written (rows (kind_of perf.now))
         (fields_of perf.now)) }
 {

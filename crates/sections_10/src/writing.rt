@@ -17,7 +17,7 @@ ghost use Rattle.sections_10.specs.Writing.{IfThere, IsData, CanBeWritten};
 use crate::message::{Body10, Message10, MsgHeader, MsgProps};
 use crate::sections::{APPLICATION_PROPERTIES, DATA, HEADER, MESSAGE_ANNOTATIONS, PROPERTIES};
 use std::alloc::Global;
-use types_10::{Value10, ValueList, has_spelling, put_value};
+use types_10::{Fields, Value10, has_spelling, put_value};
 use wire_base::{ByteText, Memory, put_u8, put_u32};
 
 /// The codes of an ulong of one byte, and of a binary with a length of one byte or of four (AMQP
@@ -38,12 +38,10 @@ const LEAST_TOO_LONG: usize = 0xFFFF_FFFB;
 // ---- lists of fields
 
 /// The list of these fields, without the nulls at its end.
-fn list_value(fields: ValueList) -> Value10
+fn list_value(fields: Fields) -> Value10
     ensures { value_tree result ≡ fields_list fields }
 {
-    let mut list = fields;
-    list.trim();
-    Value10::List(list)
+    Value10::List(fields.into_list())
 }
 
 /// A boolean, absent where it is false.
@@ -64,7 +62,7 @@ fn unless_zero(n: u32) -> Option<u32>
 fn header_value(alloc: Global, header: &MsgHeader) -> Result<Value10, Memory>
     ensures { IfOk result (λ v. value_tree v ≡ header_value header.now) }
 {
-    let mut fields = ValueList::empty(alloc);
+    let mut fields = Fields::empty(alloc);
     fields.push_maybe_boolean(header.durable)?;
     fields.push_maybe_ubyte(header.priority)?;
     fields.push_maybe_uint(header.ttl)?;
@@ -77,7 +75,7 @@ fn header_value(alloc: Global, header: &MsgHeader) -> Result<Value10, Memory>
 fn props_value(alloc: Global, props: &MsgProps) -> Result<Value10, Memory>
     ensures { IfOk result (λ v. value_tree v ≡ props_value props.now) }
 {
-    let mut fields = ValueList::empty(alloc);
+    let mut fields = Fields::empty(alloc);
     fields.push_maybe_value(alloc, &props.message_id)?;
     fields.push_maybe_binary(alloc, &props.user_id)?;
     fields.push_maybe_string(alloc, &props.to)?;

@@ -1,9 +1,9 @@
 -- Null is the one absent value, and a list without the nulls at its end has the same fields.
 use Rattle.std.proofs.Common.{◌≡◌, ℕ, zero, suc, Bool, true, false, List, [], ◌∷◌, ◌++◌, refl, sym}
-use Rattle.std.proofs.Common.{ap, ◌∙◌}
+use Rattle.std.proofs.Common.{ap, ◌∙◌, ◌+◌, ◌-◌, ◌<◌, append_assoc, append-nil, arith}
 use Rattle.types_10.specs.Tree.{Scalar, Tree, scalar, list, mapping, array, described, trees_of}
 use Rattle.types_10.specs.Tree as value
-use Rattle.types_10.specs.Fields.{absent, is_null, is_absent, tree_at, in_front, trim, ends_absent}
+use Rattle.types_10.specs.Fields.{absent, is_null, is_absent, tree_at, in_front, trim, ends_absent, nulls}
 
 -- ---- nulls
 
@@ -47,6 +47,23 @@ pub ends_push : (ts : List Tree) (t : Tree) → ends_absent (ts ++ t ∷ []) ≡
 ends_push [] t = refl
 ends_push (u ∷ []) t = refl
 ends_push (u ∷ v ∷ vs) t = ends_push (v ∷ vs) t
+
+-- ---- nulls that are counted
+
+pub nulls_next : (xs : List Tree) (n : ℕ) → 0 < n → (xs ++ absent ∷ []) ++ nulls (n - 1) ≡ xs ++ nulls n
+nulls_next xs zero h = absurd (omega (arith, h))
+nulls_next xs (suc n) h = let less : suc n - 1 ≡ n = omega arith in rw less (append_assoc xs (absent ∷ []) (nulls n))
+
+nulls_more : (n : ℕ) → nulls (n + 1) ≡ nulls n ++ absent ∷ []
+nulls_more zero = refl
+nulls_more (suc n) = let one : suc n + 1 ≡ suc (n + 1) = omega arith in rw one (ap (λ ts. absent ∷ ts) (nulls_more n))
+
+pub nulls_pushed : (xs : List Tree) (n : ℕ) → xs ++ nulls (n + 1) ≡ (xs ++ nulls n) ++ absent ∷ []
+nulls_pushed xs n = ap (λ ts. xs ++ ts) (nulls_more n) ∙ sym (append_assoc xs (nulls n) (absent ∷ []))
+
+pub trim_nulls : (ts : List Tree) (n : ℕ) → trim (ts ++ nulls n) ≡ trim ts
+trim_nulls ts zero = ap trim (append-nil ts)
+trim_nulls ts (suc n) = ap trim (sym (append_assoc ts (absent ∷ []) (nulls n))) ∙ trim_nulls (ts ++ absent ∷ []) n ∙ trim_absent ts absent refl
 
 -- where the last isn't null, nothing is left out
 pub trim_all : (ts : List Tree) → ends_absent ts ≡ false → trim ts ≡ ts

@@ -72,6 +72,11 @@ abbrev pub trim : List Tree → List Tree
 trim [] = []
 trim (t ∷ ts) = in_front t (trim ts)
 
+-- so many nulls
+abbrev pub nulls : ℕ → List Tree
+nulls zero = []
+nulls (suc n) = absent ∷ nulls n
+
 -- the last of these values is null
 abbrev pub ends_absent : List Tree → Bool
 ends_absent [] = false

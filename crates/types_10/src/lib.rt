@@ -32,6 +32,7 @@ mod weight;
 mod writing;
 
 pub use fault::TypeFault;
+pub use fields::Fields;
 pub use laws::value_laws;
 pub use reading::read_value;
 pub use skipping::skip_value;

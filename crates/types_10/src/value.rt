@@ -207,7 +207,7 @@ pub fn tell_ranges(value: &Value10)
 }
 
 /// A value is null.
-fn is_null(value: &Value10) -> bool
+pub(crate) fn is_null(value: &Value10) -> bool
     ensures { result ≡ is_absent (value_tree value.now) }
 {
     matches!(value, Value10::Null)
@@ -247,8 +247,8 @@ impl ValueList {
         Ok(())
     }
 
-    /// Drops the nulls at the end: absent fields, of which a list needs to spell none (AMQP 1.0 1.4).
-    pub fn trim(&mut self)
+    /// Drops the nulls at the end.
+    pub(crate) fn trim(&mut self)
         ensures { self.new ≡ trim self.old }
     {
         while ends_with_null(self.items.as_slice()) {
