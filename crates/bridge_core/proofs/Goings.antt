@@ -4,8 +4,6 @@ use Rattle.std.proofs.Common.{List, [], ◌∷◌, Option, None, Some, arith, re
 use Rattle.std.specs.Prelude.{IfSome}
 use Rattle.std.proofs.lemmas.Bool.Decides.{nat_tests}
 use Rattle.gate_outside.specs.declared.ports.End.TheVariants.{Client, Up}
-use Rattle.gate_relay.specs.Sides.{is_readable}
-use Rattle.machine_091.specs.State.{is_closing}
 use Rattle.machine_091.specs.declared.unit.Refusal.{Refusal}
 use Rattle.publish_path.specs.Offers.{next_frame_of}
 use Rattle.publish_path.specs.declared.publish.Confirm.{Confirm}
@@ -28,26 +26,23 @@ use Rattle.gate_model.specs.declared.outgoing.UpUnit.TheVariants as up
 use Rattle.gate_model.specs.declared.reply.Pending.{Pending}
 use Rattle.gate_model.specs.declared.reply.Reply.{Reply}
 use Rattle.gate_model.specs.declared.reply.Reply.TheVariants as reply
-use Rattle.gate_model.specs.Due.{answers, consume_ok_on, consume_oks, deliver_on, delivers}
-use Rattle.gate_model.specs.Due.{disposals, empty_on, get_ok_on, get_on, gets, is_consume_ok}
-use Rattle.gate_model.specs.Due.{is_empty_ok, is_plain_ok, writing_on, writings}
-use Rattle.gate_model.specs.Due.{attaches, begins, carried_rows, carries_back, channel_closes}
-use Rattle.gate_model.specs.Due.{channel_oks, content_on, contents, may_return, return_on}
-use Rattle.gate_model.specs.Due.{client_rows, client_units, close_behind, close_oks, close_oks_on}
-use Rattle.gate_model.specs.Due.{closes, confirm_on, confirms, detaches, ends, frame_max_in, if_so}
-use Rattle.gate_model.specs.Due.{is_beat_due, is_end_due, last_closes, link_flows, may_answer}
-use Rattle.gate_model.specs.Due.{may_confirm, may_confirm_all, may_confirm_some, may_go_on, may_end, may_go, may_tell, none_left, ok_on}
-use Rattle.gate_model.specs.Due.{open_oks, openings, path_oks, pick, refused_on, row_on, rows_in}
-use Rattle.gate_model.specs.Due.{session_flows, session_rows, settlings, transfers, unless_out}
-use Rattle.gate_model.specs.Due.{may_idle, other_rows, up_rows, when}
+use Rattle.gate_model.specs.Due.{carries_back, client_rows, close_oks_on, closes, confirm_on, consume_ok_on, content_on, deliver_on}
+use Rattle.gate_model.specs.Due.{empty_on, frame_max_in, get_ok_on, get_on, is_beat_due, is_consume_ok, is_empty_ok, is_plain_ok}
+use Rattle.gate_model.specs.Due.{last_closes, may_confirm, may_confirm_all, may_go, may_go_on, may_idle, none_left, ok_on, openings, pick}
+use Rattle.gate_model.specs.Due.{refused_on, return_on, row_on, transfers, up_rows, when, writing_on}
 use Rattle.gate_model.specs.Lives.{is_carried, life_at, session_in}
 use Rattle.gate_model.specs.Paths.{path_at, transfer_of}
 use Rattle.gate_model.specs.Spelling.{spell_reply}
 use Rattle.gate_model.specs.State.{State, is_channel_settled, is_settled}
 use Rattle.gate_model.specs.Upstream.{first, opening_rows}
-use Rattle.bridge_core.specs.Behind.{answering_units, closing_units, confirming_units, last_units}
 use Rattle.bridge_core.specs.Offers.{IsOffer, IsUpOffer, SlotState, UpSlotState}
 use Rattle.bridge_core.specs.PathChanges.{MayGoUp, MayReply}
+use Rattle.bridge_core.specs.Rows.{in_order, is_up_open, may_send, may_send_up, units_in, units_of, units_if, up_units_in, up_units_of}
+use Rattle.bridge_core.specs.declared.rows.Row.{Row}
+use Rattle.bridge_core.specs.declared.rows.Row.TheVariants as row
+use Rattle.bridge_core.specs.declared.rows.UpRow.{UpRow}
+use Rattle.bridge_core.specs.declared.rows.UpRow.TheVariants as up_row
+use Rattle.bridge_core.proofs.Order.{client_in_order, client_order, up_in_order, up_order}
 use Rattle.bridge_core.proofs.FirstOf.{FirstIs, both_are, each_is, when_is, when_up_is}
 
 -- ---- to the container
@@ -77,26 +72,6 @@ transfers_are w = each_is (MayGoUp w) _ w.lives (λ n. row_is w n _ _ (one n))
         let d : IsDue (life_at w.lives n).session.windows.window (path_at w.paths n) f = due_by _ _ f e in
         (d.room, (d.frame, omega arith))
 
-carried_are : (w : State) → FirstIs (MayGoUp w) (carried_rows w)
-carried_are w =
-    both_are (MayGoUp w) (attaches w) _ (each_is (MayGoUp w) _ w.lives (λ n. row_is w n _ _ (λ x e. (tt, tt))))
-    (both_are (MayGoUp w) (link_flows w) _ (each_is (MayGoUp w) _ w.lives (λ n. row_is w n _ _ (λ x e. (tt, tt))))
-    (both_are (MayGoUp w) (session_flows w) (transfers w) (each_is (MayGoUp w) _ w.lives (λ n. when_up_is (MayGoUp w) _ _ tt)) (transfers_are w)))
-
-sessions_are : (w : State) → FirstIs (MayGoUp w) (session_rows w)
-sessions_are w =
-    both_are (MayGoUp w) (unless_out w.out_of_memory (carried_rows w)) _ (by w.out_of_memory)
-    (both_are (MayGoUp w) (disposals w) _ (each_is (MayGoUp w) _ w.lives (λ n. row_is w n _ _ (λ x e. (tt, tt))))
-    (both_are (MayGoUp w) (settlings w) (detaches w) (each_is (MayGoUp w) _ w.lives (λ n. row_is w n _ _ (λ x e. (tt, tt))))
-    (each_is (MayGoUp w) _ w.lives (λ n. row_is w n _ _ (λ x e. (tt, tt))))))
-  where
-    by : (b : Bool) → FirstIs (MayGoUp w) (unless_out b (carried_rows w))
-    by true = tt
-    by false = carried_are w
-
-ends_are : (closing : Bool) (w : State) → FirstIs (MayGoUp w) (ends closing w)
-ends_are closing w = each_is (MayGoUp w) _ w.lives (λ n. when_up_is (MayGoUp w) (is_end_due closing w n) _ tt)
-
 openings_are : (w : State) → FirstIs (MayGoUp w) (opening_rows w.up.pending)
 openings_are w =
     both_are (MayGoUp w) _ _ (when_up_is (MayGoUp w) w.up.pending.sasl_header up.SaslHeader tt)
@@ -104,24 +79,33 @@ openings_are w =
     (both_are (MayGoUp w) _ _ (when_up_is (MayGoUp w) w.up.pending.amqp_header up.AmqpHeader tt)
     (when_up_is (MayGoUp w) w.up.pending.«open» up.Open tt)))
 
-others_are : (closing : Bool) (w : State) → FirstIs (MayGoUp w) (other_rows closing w)
-others_are true w =
-    both_are (MayGoUp w) (session_rows w) _ (sessions_are w)
-    (both_are (MayGoUp w) (ends true w) (close_behind w) (ends_are true w) (when_up_is (MayGoUp w) (none_left w && w.up.sent.«open») _ tt))
-others_are false w =
-    both_are (MayGoUp w) (opening_rows w.up.pending) _ (openings_are w)
-    (both_are (MayGoUp w) (begins w) _ (each_is (MayGoUp w) _ w.lives (λ n. when_up_is (MayGoUp w) _ _ tt))
-    (both_are (MayGoUp w) (session_rows w) (ends false w) (sessions_are w) (ends_are false w)))
+up_row_is : (w : State) (r : UpRow) → FirstIs (MayGoUp w) (up_units_in w r)
+up_row_is w up_row.Opening = openings_are w
+up_row_is w up_row.Begin = each_is (MayGoUp w) _ w.lives (λ n. when_up_is (MayGoUp w) _ _ tt)
+up_row_is w up_row.Attach = each_is (MayGoUp w) _ w.lives (λ n. row_is w n _ _ (λ x e. (tt, tt)))
+up_row_is w up_row.LinkFlow = each_is (MayGoUp w) _ w.lives (λ n. row_is w n _ _ (λ x e. (tt, tt)))
+up_row_is w up_row.SessionFlow = each_is (MayGoUp w) _ w.lives (λ n. when_up_is (MayGoUp w) _ _ tt)
+up_row_is w up_row.Transfer = transfers_are w
+up_row_is w up_row.Dispose = each_is (MayGoUp w) _ w.lives (λ n. row_is w n _ _ (λ x e. (tt, tt)))
+up_row_is w up_row.Settle = each_is (MayGoUp w) _ w.lives (λ n. row_is w n _ _ (λ x e. (tt, tt)))
+up_row_is w up_row.Detach = each_is (MayGoUp w) _ w.lives (λ n. row_is w n _ _ (λ x e. (tt, tt)))
+up_row_is w up_row.End = each_is (MayGoUp w) _ w.lives (λ n. when_up_is (MayGoUp w) _ _ tt)
+up_row_is w up_row.Close = when_up_is (MayGoUp w) (none_left w && w.up.sent.«open») _ tt
+up_row_is w up_row.Empty = when_up_is (MayGoUp w) (may_idle w) up.Empty tt
 
-rows_are : (closing : Bool) (w : State) → FirstIs (MayGoUp w) (rows_in closing w)
-rows_are closing w = both_are (MayGoUp w) (other_rows closing w) _ (others_are closing w) (when_up_is (MayGoUp w) (may_idle w) up.Empty tt)
+if_is : {A : Type 0} (P : A → Type 0) (b : Bool) (us : List A) → FirstIs P us → FirstIs P (units_if b us)
+if_is P true us p = p
+if_is P false us p = tt
+
+in_order_is : {R A : Type 0} (P : A → Type 0) (f : R → List A) (rs : List R) → ((r : R) → FirstIs P (f r)) → FirstIs P (in_order f rs)
+in_order_is P f [] is = tt
+in_order_is P f (r ∷ rs) is = both_are P (f r) (in_order f rs) (is r) (in_order_is P f rs is)
 
 up_are : (w : State) → FirstIs (MayGoUp w) (up_rows w)
-up_are w = by (is_readable w.up.side && not w.up.sent.close)
-  where
-    by : (b : Bool) → FirstIs (MayGoUp w) (if b then rows_in (w.out_of_memory || is_closing w.conn) w else [])
-    by true = rows_are (w.out_of_memory || is_closing w.conn) w
-    by false = tt
+up_are w =
+    subst (FirstIs (MayGoUp w)) (sym (up_in_order w))
+    (if_is (MayGoUp w) (is_up_open w) _ (in_order_is (MayGoUp w) (up_units_of w) up_order
+    (λ r. if_is (MayGoUp w) (may_send_up w r) (up_units_in w r) (up_row_is w r))))
 
 -- ---- to the client
 
@@ -156,22 +140,6 @@ writing_is : (w : State) (n : ℕ) (o : Option ContentDue) → FirstIs (MayReply
 writing_is w n None = tt
 writing_is w n (Some c) = tt
 
-writings_are : (w : State) → FirstIs (MayReply w) (writings w)
-writings_are w = each_is (MayReply w) _ w.lives
-    (λ n. open_is (MayReply w) (life_at w.lives n).over _ (writing_is w n (next_content (path_at w.paths n))))
-
-answers_are : (w : State) → FirstIs (MayReply w) (answers w)
-answers_are w =
-    both_are (MayReply w) (open_oks w) _
-    (each_is (MayReply w) _ w.lives (λ n. when_is (MayReply w) (life_at w.lives n).open_ok (reply.ChannelOpenOk n) tt))
-    (both_are (MayReply w) (path_oks w) _
-    (each_is (MayReply w) _ w.lives (λ n. open_is (MayReply w) (life_at w.lives n).over _ (ok_is w n (next_ok (path_at w.paths n)))))
-    (both_are (MayReply w) (consume_oks w) _
-    (each_is (MayReply w) _ w.lives (λ n. open_is (MayReply w) (life_at w.lives n).over _ (consume_ok_is w n (next_ok (path_at w.paths n)))))
-    (both_are (MayReply w) (gets w) (delivers w)
-    (each_is (MayReply w) _ w.lives (λ n. open_is (MayReply w) (life_at w.lives n).over _ (get_is w n)))
-    (each_is (MayReply w) _ w.lives (λ n. open_is (MayReply w) (life_at w.lives n).over _ (deliver_is w n (next_deliver (path_at w.paths n)) refl))))))
-
 return_is : (w : State) (n : ℕ) (may : Bool) (o : Option NextReturn) → next_return (path_at w.paths n) ≡ o → FirstIs (MayReply w) (return_on may n o)
 return_is w n may None e = tt
 return_is w n may (Some r) e = when_is (MayReply w) (may && r.first) (reply.OnChannel n (to_client.Return r)) e
@@ -197,57 +165,46 @@ close_is : (w : State) (o : Option Refusal) → FirstIs (MayReply w) (closes o)
 close_is w None = tt
 close_is w (Some r) = tt
 
-if_so_is : (P : Reply → Type 0) (b : Bool) (us : List Reply) → FirstIs P us → FirstIs P (if_so b us)
-if_so_is P true us p = p
-if_so_is P false us p = tt
-
 first_are : (w : State) (p : Pending) → FirstIs (MayReply w) (openings p)
 first_are w p =
     both_are (MayReply w) _ _ (when_is (MayReply w) p.protocol reply.Protocol tt)
     (both_are (MayReply w) _ _ (when_is (MayReply w) p.start reply.Start tt)
     (both_are (MayReply w) _ _ (when_is (MayReply w) p.tune reply.Tune tt) (when_is (MayReply w) p.open_ok reply.OpenOk tt)))
 
-last_are : (w : State) → FirstIs (MayReply w) (last_units w)
-last_are w =
-    let p : Pending = may_go (is_settled w) w.pending in
-    both_are (MayReply w) (last_closes p) _
-    (both_are (MayReply w) (closes p.close) _ (close_is w p.close) (when_is (MayReply w) p.no_memory reply.NoMemory tt))
-    (if_so_is (MayReply w) (may_tell w) (channel_closes w)
-    (each_is (MayReply w) _ w.lives (λ n. refusal_is w n (is_channel_settled w n) (life_at w.lives n).close)))
+last_are : (w : State) (p : Pending) → FirstIs (MayReply w) (last_closes p)
+last_are w p = both_are (MayReply w) (closes p.close) _ (close_is w p.close) (when_is (MayReply w) p.no_memory reply.NoMemory tt)
 
-closing_are : (w : State) → FirstIs (MayReply w) (closing_units w)
-closing_are w =
-    let p : Pending = may_go (is_settled w) w.pending in
-    both_are (MayReply w) (close_oks p) _ (when_is (MayReply w) p.close_ok reply.CloseOk tt)
-    (both_are (MayReply w) (if_so (may_end w) (channel_oks w)) _
-    (if_so_is (MayReply w) (may_end w) (channel_oks w)
-    (each_is (MayReply w) _ w.lives (λ n. closings_are w n ((life_at w.lives n).close_ok && is_channel_settled w n) (life_at w.lives n))))
-    (last_are w))
-
-confirming_are : (w : State) → FirstIs (MayReply w) (confirming_units w)
-confirming_are w =
-    both_are (MayReply w) (if_so (may_confirm_some w) (confirms w)) _
-    (if_so_is (MayReply w) (may_confirm_some w) (confirms w)
-    (each_is (MayReply w) _ w.lives (λ n. both_are (MayReply w) (return_on _ n (next_return (path_at w.paths n))) _
+reply_is : (w : State) (r : Row) → FirstIs (MayReply w) (units_in w r)
+reply_is w row.Content = each_is (MayReply w) _ w.lives
+    (λ n. content_is w n (may_go_on (may_confirm_all w) (life_at w.lives n)) (next_return (path_at w.paths n)) refl)
+reply_is w row.Writing = each_is (MayReply w) _ w.lives
+    (λ n. open_is (MayReply w) (life_at w.lives n).over _ (writing_is w n (next_content (path_at w.paths n))))
+reply_is w row.Opening = first_are w (may_go (is_settled w) w.pending)
+reply_is w row.ChannelOpenOk = each_is (MayReply w) _ w.lives
+    (λ n. when_is (MayReply w) (life_at w.lives n).open_ok (reply.ChannelOpenOk n) tt)
+reply_is w row.Ok = each_is (MayReply w) _ w.lives
+    (λ n. open_is (MayReply w) (life_at w.lives n).over _ (ok_is w n (next_ok (path_at w.paths n))))
+reply_is w row.ConsumeOk = each_is (MayReply w) _ w.lives
+    (λ n. open_is (MayReply w) (life_at w.lives n).over _ (consume_ok_is w n (next_ok (path_at w.paths n))))
+reply_is w row.Get = each_is (MayReply w) _ w.lives
+    (λ n. open_is (MayReply w) (life_at w.lives n).over _ (get_is w n))
+reply_is w row.Deliver = each_is (MayReply w) _ w.lives
+    (λ n. open_is (MayReply w) (life_at w.lives n).over _ (deliver_is w n (next_deliver (path_at w.paths n)) refl))
+reply_is w row.Confirm = each_is (MayReply w) _ w.lives
+    (λ n. both_are (MayReply w) (return_on _ n (next_return (path_at w.paths n))) _
     (return_is w n (not w.out_of_memory && may_confirm (may_confirm_all w) (life_at w.lives n)) (next_return (path_at w.paths n)) refl)
-    (confirm_is w n (may_confirm (may_confirm_all w) (life_at w.lives n)) (next_confirm (path_at w.paths n)) refl))))
-    (closing_are w)
-
-answering_are : (w : State) → FirstIs (MayReply w) (answering_units w)
-answering_are w =
-    both_are (MayReply w) (if_so (may_answer w) (answers w)) _
-    (if_so_is (MayReply w) (may_answer w) (answers w) (answers_are w))
-    (confirming_are w)
+    (confirm_is w n (may_confirm (may_confirm_all w) (life_at w.lives n)) (next_confirm (path_at w.paths n)) refl))
+reply_is w row.CloseOk = when_is (MayReply w) (may_go (is_settled w) w.pending).close_ok reply.CloseOk tt
+reply_is w row.ChannelCloseOk = each_is (MayReply w) _ w.lives
+    (λ n. closings_are w n ((life_at w.lives n).close_ok && is_channel_settled w n) (life_at w.lives n))
+reply_is w row.Close = last_are w (may_go (is_settled w) w.pending)
+reply_is w row.ChannelClose = each_is (MayReply w) _ w.lives (λ n. refusal_is w n (is_channel_settled w n) (life_at w.lives n).close)
+reply_is w row.Heartbeat = when_is (MayReply w) (is_beat_due w) reply.Heartbeat tt
 
 client_are : (w : State) → FirstIs (MayReply w) (client_rows w)
 client_are w =
-    both_are (MayReply w) (client_units w) _
-    (both_are (MayReply w) (if_so (may_return w) (contents w)) _
-    (if_so_is (MayReply w) (may_return w) (contents w)
-    (each_is (MayReply w) _ w.lives (λ n. content_is w n (may_go_on (may_confirm_all w) (life_at w.lives n)) (next_return (path_at w.paths n)) refl)))
-    (both_are (MayReply w) (if_so (may_answer w) (writings w)) _ (if_so_is (MayReply w) (may_answer w) (writings w) (writings_are w))
-    (both_are (MayReply w) (openings (may_go (is_settled w) w.pending)) _ (first_are w (may_go (is_settled w) w.pending)) (answering_are w))))
-    (when_is (MayReply w) (is_beat_due w) reply.Heartbeat tt)
+    subst (FirstIs (MayReply w)) (sym (client_in_order w)) (in_order_is (MayReply w) (units_of w) client_order
+    (λ r. if_is (MayReply w) (may_send w r) (units_in w r) (reply_is w r)))
 
 -- ---- what is offered
 

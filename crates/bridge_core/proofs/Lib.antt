@@ -2,6 +2,7 @@ pub mod AboveHeld
 pub mod Backs
 pub mod Calm
 pub mod Changes
+pub mod ChannelRows
 pub mod Counts
 pub mod Errors
 pub mod FirstOf
@@ -9,7 +10,6 @@ pub mod FirstPlaces
 pub mod Firsts
 pub mod Flows
 pub mod Goings
-pub mod Handed
 pub mod Heards
 pub mod Joined
 pub mod KeptFirsts
@@ -21,6 +21,7 @@ pub mod LinkSpellings
 pub mod Logins
 pub mod Meets
 pub mod NextOwing
+pub mod Order
 pub mod OwedLines
 pub mod Passed
 pub mod PathChanges
@@ -28,7 +29,6 @@ pub mod PathSlots
 pub mod Payloads
 pub mod Places
 pub mod Rooms
-pub mod Rows
 pub mod Search
 pub mod Spellings
 pub mod Strains

@@ -1,5 +1,4 @@
 pub mod Backs
-pub mod Behind
 pub mod ChannelRows
 pub mod Flows
 pub mod Going
@@ -10,4 +9,4 @@ pub mod Met
 pub mod Offers
 pub mod PathChanges
 pub mod Reports
-pub mod Words
+pub mod Rows

@@ -18,6 +18,7 @@ mod replies;
 mod report;
 mod requests;
 mod returns;
+mod rows;
 mod sessions;
 mod slot;
 mod transfers;

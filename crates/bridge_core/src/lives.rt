@@ -1,8 +1,9 @@
 //! The channels of a client: what is due on each.
 
-ghost use Rattle.std.specs.Prelude.{◌≡◌, ◌≤◌, drop, false, length};
+ghost use Rattle.std.specs.Prelude.{◌≡◌, ◌<◌, ◌≤◌, drop, false, length};
 ghost use Rattle.gate_model.specs.Lives.{is_clear, life_at, no_life, no_lives, old_life, with_life};
 ghost use Rattle.bridge_core.specs.Flows.{FlowsFit};
+ghost use Rattle.bridge_core.specs.declared.lives.TheConstants.{CHANNELS};
 
 use crate::sessions::no_session;
 use gate_model::Life;
@@ -65,13 +66,15 @@ impl Model for Lives {
     ghost use Rattle.gate_model.specs.declared.life.Life.{Life};
     ghost use Rattle.gate_model.specs.Lives.{no_lives};
     ghost use Rattle.bridge_core.specs.Flows.{FlowsFit};
+    ghost use Rattle.bridge_core.specs.declared.lives.TheConstants.{CHANNELS};
 
     ghost Value = { List Life };
 
     ghost view = { λ a. a.lives };
 
     ghost invariant = { λ a. (a.crowded ≡ false → FlowsFit a.lives)
-        × ((a.top ≤ length a.lives) × (drop a.top a.lives ≡ drop a.top no_lives)) };
+        × ((length a.lives ≡ CHANNELS)
+        × ((a.top ≤ CHANNELS) × (drop a.top a.lives ≡ drop a.top no_lives))) };
 }
 
 impl Lives {
@@ -104,6 +107,15 @@ impl Lives {
         }
     }
 
+    /// The same, of a channel that a client may open.
+    #[tactic(auto, using(crate::proofs::ChannelRows::read_any))]
+    pub fn get(&self, channel: u16) -> &Life
+        requires { channel < CHANNELS }
+        ensures { result.now ≡ life_at self.now channel }
+    {
+        &self.lives[channel as usize]
+    }
+
     /// What is due on a channel is this.
     #[tactic(auto, using(crate::proofs::Flows::set_beyond))]
     pub fn set(&mut self, channel: u16, life: Life)
@@ -120,6 +132,7 @@ impl Lives {
 
     /// Nothing was ever due on a channel from this number on.
     pub fn top(&self) -> u16
+        ensures count { length self.now ≡ CHANNELS }
         ensures within { result ≤ length self.now }
         ensures beyond { drop result self.now ≡ drop result no_lives }
     {

@@ -1,6 +1,6 @@
 use Rattle.std.proofs.Common.{◌≤◌, ◌<◌, ◌∙◌, ap, arith, length, sym}
 use Rattle.bridge_core.specs.ChannelRows.{is_waiting_on}
-use Rattle.bridge_core.proofs.Rows.{any_found, any_passed, waits_end}
+use Rattle.bridge_core.proofs.ChannelRows.{any_found, any_passed, waits_end}
 use Rattle.bridge_core.proofs.channel_rows.any_waits.Goals as goal
 
 pub returns-then-is_waiting_on : goal.returns-then-is_waiting_on
