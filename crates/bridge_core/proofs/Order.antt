@@ -1,5 +1,5 @@
 -- The units that are due to an end are those of its rows, in their order.
-use Rattle.std.proofs.Common.{◌≡◌, ◌∙◌, Bool, true, false, not, List, [], ◌∷◌, ◌++◌, refl, if◌then◌else◌}
+use Rattle.std.proofs.Common.{◌≡◌, Bool, true, false, not, List, [], ◌∷◌, ◌++◌, refl, if◌then◌else◌}
 use Rattle.std.proofs.Common.{append_assoc, append-nil}
 use Rattle.gate_model.specs.Due.{attaches, begins, channel_closes, channel_oks, client_rows, close_behind, close_oks}
 use Rattle.gate_model.specs.Due.{confirms, consume_oks, contents, delivers, detaches, disposals, ends, gets, if_so, is_beat_due, last_closes}

@@ -1,12 +1,15 @@
 //! The channels of a client: what is due on each.
 
-ghost use Rattle.std.specs.Prelude.{◌≡◌, ◌<◌, ◌≤◌, drop, false, length};
-ghost use Rattle.gate_model.specs.Lives.{is_clear, life_at, no_life, no_lives, old_life, with_life};
+ghost use Rattle.std.specs.Prelude.{◌≡◌, ◌<◌, ◌≤◌, None, drop, false, length, true};
+ghost use Rattle.gate_model.specs.Lives.{asked_life, begun_life, closed_life, failed_life};
+ghost use Rattle.gate_model.specs.Lives.{freed_life, is_clear, life_at, no_life, no_lives};
+ghost use Rattle.gate_model.specs.Lives.{old_life, with_life, with_state};
 ghost use Rattle.bridge_core.specs.Flows.{FlowsFit};
 ghost use Rattle.bridge_core.specs.declared.lives.TheConstants.{CHANNELS};
 
 use crate::sessions::no_session;
-use gate_model::Life;
+use gate_model::{Life, Reason, SessionState};
+use performatives_10::Condition;
 use std::marker::Model;
 
 /// The channels of a client are numbered below this (AMQP 0-9-1 1.4.2.5).
@@ -42,6 +45,78 @@ pub fn old_life(life: Life) -> Life
         why: life.why,
         session: life.session,
         ..no_life()
+    }
+}
+
+/// What is due once channel.open was taken up.
+pub fn asked_life(life: Life) -> Life
+    ensures { result ≡ asked_life life }
+{
+    Life {
+        waits: true,
+        begin: true,
+        ..old_life(life)
+    }
+}
+
+/// Once the container's begin came.
+pub fn begun_life(life: Life) -> Life
+    ensures { result ≡ begun_life life }
+{
+    Life {
+        waits: false,
+        open_ok: life.open_ok || life.waits,
+        ..life
+    }
+}
+
+/// Once its client closed it.
+pub fn closed_life(life: Life, moment: u64) -> Life
+    ensures { result ≡ closed_life moment life }
+{
+    let closed_at = life.closed_at.or(Some(moment));
+    let by_peer = life.by_peer;
+    let told = life.told;
+    Life {
+        awaits_end: !life.over,
+        over: true,
+        closed_at,
+        by_peer,
+        close_ok: true,
+        told,
+        ..old_life(life)
+    }
+}
+
+/// Once it is at fault, or its container: this is told to the client, and this to the container.
+pub fn failed_life(
+    life: Life,
+    by_peer: bool,
+    moment: u64,
+    reason: Reason,
+    why: Option<Condition>,
+) -> Life
+    ensures { result ≡ failed_life by_peer moment reason why life }
+{
+    Life {
+        over: true,
+        closed_at: Some(moment),
+        by_peer,
+        close: Some(reason),
+        why,
+        ..old_life(life)
+    }
+}
+
+/// Once its client answered the gateway's channel.close.
+pub fn freed_life(life: Life) -> Life
+    ensures { result ≡ freed_life life }
+{
+    let crossed_ok = life.crossed_ok || life.close_ok;
+    Life {
+        over: true,
+        crossed_ok,
+        ..old_life(life)
     }
 }
 
@@ -128,6 +203,81 @@ impl Lives {
             self.crowded = self.crowded || full;
             self.top = self.top.max(channel + 1);
         }
+    }
+
+    /// The session of a channel changes to this.
+    pub fn set_session(&mut self, channel: u16, session: SessionState)
+        ensures { self.new ≡ with_state channel session self.old }
+    {
+        let life = self.at(channel);
+        self.set(channel, Life { session, ..life });
+    }
+
+    /// The first byte of a channel.open-ok was sent.
+    pub fn open_ok_sent(&mut self, channel: u16)
+        ensures { self.new
+            ≡ with_life channel (record (life_at self.old channel) { open_ok = false }) self.old }
+    {
+        let open_ok = false;
+        let life = self.at(channel);
+        self.set(channel, Life { open_ok, ..life });
+    }
+
+    /// That of a channel.close-ok was.
+    pub fn close_ok_sent(&mut self, channel: u16)
+        ensures { self.new
+            ≡ with_life channel (record (life_at self.old channel) { close_ok = false }) self.old }
+    {
+        let close_ok = false;
+        let life = self.at(channel);
+        self.set(channel, Life { close_ok, ..life });
+    }
+
+    /// That of one to a channel.close that crossed the gateway's was.
+    pub fn crossed_ok_sent(&mut self, channel: u16)
+        ensures { self.new ≡ with_life channel
+            (record (life_at self.old channel) { crossed_ok = false }) self.old }
+    {
+        let crossed_ok = false;
+        let life = self.at(channel);
+        self.set(channel, Life { crossed_ok, ..life });
+    }
+
+    /// That of a channel.close was.
+    pub fn close_sent(&mut self, channel: u16)
+        ensures { self.new
+            ≡ with_life channel (record (life_at self.old channel) { close = None; told = true })
+            self.old }
+    {
+        let life = self.at(channel);
+        self.set(
+            channel,
+            Life {
+                close: None,
+                told: true,
+                ..life
+            },
+        );
+    }
+
+    /// That of the begin of its session was.
+    pub fn begin_sent(&mut self, channel: u16)
+        ensures { self.new
+            ≡ with_life channel (record (life_at self.old channel) { begin = false }) self.old }
+    {
+        let begin = false;
+        let life = self.at(channel);
+        self.set(channel, Life { begin, ..life });
+    }
+
+    /// That of the end of its session was.
+    pub fn end_sent(&mut self, channel: u16)
+        ensures { self.new
+            ≡ with_life channel (record (life_at self.old channel) { why = None }) self.old }
+    {
+        let why = None;
+        let life = self.at(channel);
+        self.set(channel, Life { why, ..life });
     }
 
     /// Nothing was ever due on a channel from this number on.

@@ -13,7 +13,7 @@ ghost use Rattle.bridge_core.specs.PathChanges.{consumed_by};
 ghost use Rattle.session_path.specs.Path.{cancelled, declare_came, got, published};
 ghost use Rattle.gate_model.specs.Paths.{bytes_in, bytes_on, held_in, held_on, is_laden};
 ghost use Rattle.gate_model.specs.Paths.{lines_of_life};
-ghost use Rattle.gate_model.specs.Paths.{lost_path, no_paths, set_path, slot_at};
+ghost use Rattle.gate_model.specs.Paths.{ended_path, lost_path, no_paths, set_path, slot_at};
 ghost use Rattle.gate_model.specs.Paths.{told_paths, with_path};
 ghost use Rattle.session_path.specs.Path.{lines_told};
 ghost use Rattle.gate_model.specs.State.{path_given, path_told};
@@ -120,7 +120,16 @@ fn recover(path: &mut SessionPath) -> Result<(), Memory>
 }
 
 impl PathSlot {
-    /// Its session, or the connection, is lost.
+    /// The gateway's end of its session went, or the connection is lost.
+    fn end(&mut self)
+        ensures { self.new ≡ option_map ended_path self.old }
+    {
+        if let Some(path) = &mut self.path {
+            path.ended();
+        }
+    }
+
+    /// Its session is lost.
     fn lose(&mut self)
         ensures { self.new ≡ option_map lost_path self.old }
     {
@@ -429,12 +438,12 @@ fn tell_each(slots: &mut [PathSlot])
     }
 }
 
-/// All sessions are lost.
+/// The connection is lost: no link of a session is left.
 fn lose_each(paths: &mut [PathSlot; CHANNELS])
-    ensures { paths.new ≡ map (option_map lost_path) paths.old }
+    ensures { paths.new ≡ map (option_map ended_path) paths.old }
 {
     for slot in paths.iter_mut() {
-        slot.lose();
+        slot.end();
     }
 }
 
@@ -561,6 +570,17 @@ impl Paths {
         }
     }
 
+    /// The gateway's end of the session of a channel went.
+    #[tactic(auto, using(crate::proofs::PathSlots::none_beyond))]
+    pub fn end(&mut self, channel: u16)
+        ensures { self.new ≡ with_path channel ended_path self.old }
+    {
+        let at = usize::from(channel);
+        if at < self.paths.len() {
+            self.paths[at].end();
+        }
+    }
+
     /// What the report was owed was reported.
     pub fn lines_told(&mut self)
         ensures { self.new ≡ told_paths self.old }
@@ -597,9 +617,9 @@ impl Paths {
         lose_ends(&mut self.paths);
     }
 
-    /// All sessions are lost.
+    /// The connection is lost: no link of a session is left.
     pub fn lose_all(&mut self)
-        ensures { self.new ≡ map (option_map lost_path) self.old }
+        ensures { self.new ≡ map (option_map ended_path) self.old }
     {
         lose_each(&mut self.paths);
     }

@@ -188,7 +188,8 @@ stays_short (event.TransferSent frame count) s g k =
 stays_short event.DisposeSent s g k = disposed_has (next_settle_of s.deliveries.list) s k
 stays_short event.DetachSent s g k =
     dropped_has (detaching_of s) (record s { links = parted (detaching_of s) s.links }) (with_near (parted_near (detaching_of s) s.links k.near) k)
-stays_short event.SessionLost s g k = with_near tt k
+stays_short event.SessionLost s g k = with_near (all_left IsNear _ s.links.sending k.near) k
+stays_short event.SessionEnded s g k = with_near tt k
 stays_short event.UpLost s g k = with_near tt k
 stays_short x s g k = k
 

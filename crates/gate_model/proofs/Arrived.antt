@@ -751,6 +751,7 @@ event_none s x e = none_any comes (delivery_events s x) (event_all (λ (d : Deli
     others (event.ContentWhole tag) f = refl
     others event.LifeClosed f = refl
     others event.SessionLost f = refl
+    others event.SessionEnded f = refl
     others event.UpLost f = (refl, refl)
     others x f = tt
 

@@ -149,6 +149,7 @@ plain life es (event.DispositionCame first last outcome settled) e t = quiet (Ou
 plain life es (event.ConfirmWent confirm) e t = quiet (ConfirmSent confirm) refl refl refl t
 plain life es event.LinesWent e t = quiet LinesTold refl refl refl t
 plain life es event.SessionLost e t = quiet (LinkGone None false) refl refl refl t
+plain life es event.SessionEnded e t = quiet (LinkGone None false) refl refl refl t
 plain life es event.UpLost e t = quiet (LinkGone None false) refl refl refl t
 plain life es x e t = t
 

@@ -45,6 +45,7 @@ OfEvent P s (event.TransferCame peer part payload image again) = (link : ℕ) (d
 OfEvent P s (event.ContentWhole tag) = P (on.Written tag)
 OfEvent P s event.LifeClosed = P on.Closed
 OfEvent P s event.SessionLost = P on.Closed
+OfEvent P s event.SessionEnded = P on.Closed
 OfEvent P s event.UpLost = P on.EndLost × P on.Closed
 OfEvent P s x = Unit {0}
 
@@ -135,6 +136,7 @@ module _ (P : DeliveryEvent → Type 0) (plain : (d : DeliveryEvent) → is_plai
   each_all s event.LinesWent o = (plain _ refl, tt)
   each_all s event.LifeClosed o = (o, tt)
   each_all s event.SessionLost o = (o, tt)
+  each_all s event.SessionEnded o = (o, tt)
   each_all s event.UpLost o = (o.0, (o.1, tt))
   each_all s x o = tt
 

@@ -287,6 +287,7 @@ each_calm event.DetachSent e = detach_calm
 each_calm event.LinesWent e = λ s. Still refl (refl, tt)
 each_calm event.LifeClosed e = λ s. Shuts refl (λ ds. refl)
 each_calm event.SessionLost e = λ s. Shuts refl (λ ds. refl)
+each_calm event.SessionEnded e = λ s. Shuts refl (λ ds. refl)
 each_calm event.UpLost e = λ s. Shuts refl (λ ds. refl)
 each_calm (event.ConfirmWent c) e = absurd cc
 each_calm (event.ReturnWent number) e = absurd cc

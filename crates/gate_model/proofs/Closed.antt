@@ -85,6 +85,7 @@ use Rattle.gate_model.proofs.Outcomes.{Declines, Drops, Calls, Asking, Publishes
 abbrev pub shuts : PathEvent → Bool
 shuts event.LifeClosed = true
 shuts event.SessionLost = true
+shuts event.SessionEnded = true
 shuts event.UpLost = true
 shuts x = false
 
@@ -597,6 +598,7 @@ closed_both (x ∷ xs) ys = ap (λ (b : Bool). closes x || b) (closed_both xs ys
 event_closes : (s : PathState) (x : PathEvent) → is_closed (delivery_events s x) ≡ shuts x
 event_closes s event.LifeClosed = refl
 event_closes s event.SessionLost = refl
+event_closes s event.SessionEnded = refl
 event_closes s event.UpLost = refl
 event_closes s x = none (delivery_events s x) (event_all (λ (d : DeliveryEvent). closes d ≡ false) mild s x (others x refl))
   where
@@ -617,6 +619,7 @@ event_closes s x = none (delivery_events s x) (event_all (λ (d : DeliveryEvent)
     others (event.ContentWhole tag) f = refl
     others event.LifeClosed f = absurd cc
     others event.SessionLost f = absurd cc
+    others event.SessionEnded f = absurd cc
     others event.UpLost f = absurd cc
     others x f = tt
 

@@ -340,6 +340,7 @@ module _ (deliveries : DeliveriesAre) (life : ℕ) where
       by (event.ContentWhole tag) old = calm (event.ContentWhole tag) old refl refl
       by event.LifeClosed old = calm event.LifeClosed old refl refl
       by event.SessionLost old = calm event.SessionLost old refl refl
+      by event.SessionEnded old = calm event.SessionEnded old refl refl
       by event.UpLost old = calm event.UpLost old (refl, refl) refl
       by y old = calm y old tt refl
 

@@ -68,7 +68,7 @@ use Rattle.gate_model.specs.Lives.{is_of_channel}
 use Rattle.gate_model.specs.Session.{is_of_session, is_true}
 use Rattle.gate_model.specs.Once.{is_channel_flow, is_flow_ok, is_flow_ok_on, is_method_on, one_if, wanted_in, went_in}
 use Rattle.gate_model.specs.Paths.{attached_as, closed_path, closed_paths, credit_of, fault_in, heard_as, is_not_found}
-use Rattle.gate_model.specs.Paths.{is_outcome, outcome_by, outcome_in, lost_path, lost_paths, name_in, no_paths, or_no_path, part_in, path_at}
+use Rattle.gate_model.specs.Paths.{is_outcome, outcome_by, outcome_in, ended_path, lost_path, ended_paths, name_in, no_paths, or_no_path, part_in, path_at}
 use Rattle.gate_model.specs.Paths.{slot_at, text_of, told_paths, transferred_by, with_path}
 use Rattle.gate_model.specs.State.{is_later, Came, Fed, Gave, Heard, Joined, LinesTold, Lost, Moment, OutOfMemory, conn_step}
 use Rattle.gate_model.specs.State.{Queued, Silent, State, Step, TakenUp, Whole, answered_if, before}
@@ -162,6 +162,10 @@ lost_adds : AddsNone lost_path
 unfolding AddsNone
 lost_adds s = omega arith
 
+left_adds : AddsNone ended_path
+unfolding AddsNone
+left_adds s = omega arith
+
 closed_adds : AddsNone closed_path
 unfolding AddsNone
 closed_adds s = omega arith
@@ -184,8 +188,8 @@ each_less n ps f less = let all : flows_due n (map (option_map f) ps) ≡ owed_i
     by (Some s) = less s
 
 -- all are lost
-lost_less : (n : ℕ) (ps : List (Option PathState)) → flows_due n (lost_paths ps) ≤ flows_due n ps
-lost_less n ps = each_less n ps lost_path lost_adds
+lost_less : (n : ℕ) (ps : List (Option PathState)) → flows_due n (ended_paths ps) ≤ flows_due n ps
+lost_less n ps = each_less n ps ended_path left_adds
 
 -- all close
 closed_less : (n : ℕ) (ps : List (Option PathState)) → flows_due n (closed_paths ps) ≤ flows_due n ps
@@ -354,7 +358,7 @@ given_adds u s = same_oks (path_given u s) s (given_keeps u s)
 up_less : (later : Bool) (n : ℕ) (u : UpUnit) (ps : List (Option PathState)) → flows_due n (paths_given_up later u ps) ≤ flows_due n ps
 up_less later n (up.OnSession k u) ps = with_less n k ps (path_given u) (given_adds u)
 up_less true n (up.End k why) ps = reported_less n ps
-up_less false n (up.End k why) ps = less_both _ _ _ (with_less n k (told_paths ps) lost_path lost_adds) (reported_less n ps)
+up_less false n (up.End k why) ps = less_both _ _ _ (with_less n k (told_paths ps) ended_path left_adds) (reported_less n ps)
 up_less later n x ps = omega arith
 
 -- ---- a request

@@ -213,6 +213,7 @@ module _ (n : ℕ) where
   Spares (event.DetachCame peer not_found) s = IfSome (named peer s.links) (λ l. (l.link == n) ≡ false)
   Spares event.DetachSent s = IfSome (detaching_of s) (λ l. (l.link == n) ≡ false)
   Spares event.SessionLost s = ⊥
+  Spares event.SessionEnded s = ⊥
   Spares event.UpLost s = ⊥
   Spares x s = Unit {0}
 
@@ -257,6 +258,7 @@ module _ (n : ℕ) where
       stays (stage.Refused k) r c = refl
       stays g r c = absurd cc
   whole_after event.SessionLost s t ne w = absurd ne
+  whole_after event.SessionEnded s t ne w = absurd ne
   whole_after event.UpLost s t ne w = absurd ne
   whole_after x s t ne w = w
 
@@ -540,6 +542,7 @@ module _ (life : ℕ) where
   carries_after (event.ReturnWent number) es o old = one (event.ReturnWent number) _ es old refl (λ k. tt) (λ k b w. tt)
   carries_after event.LinesWent es o old = one event.LinesWent _ es old refl (λ k. tt) (λ k b w. tt)
   carries_after event.SessionLost es o old = one event.SessionLost _ es old refl (λ k. tt) (λ k b w. let no : true ≡ false = b.apart None false refl in absurd cc)
+  carries_after event.SessionEnded es o old = one event.SessionEnded _ es old refl (λ k. tt) (λ k b w. let no : true ≡ false = b.apart None false refl in absurd cc)
   carries_after event.UpLost es o old = one event.UpLost _ es old refl (λ k. tt) (λ k b w. let no : true ≡ false = b.apart None false refl in absurd cc)
   carries_after x es o old = λ k t g. whole_after (fate_of k (ps es)).link x (at es) (tied_after life es) tt (old k t g)
 

@@ -229,6 +229,7 @@ none_up s (event.ConfirmWent confirm) e = (refl, tt)
 none_up s (event.ReturnWent number) e = (refl, tt)
 none_up s event.LinesWent e = (refl, tt)
 none_up s event.SessionLost e = (refl, tt)
+none_up s event.SessionEnded e = (refl, tt)
 none_up s event.UpLost e = (refl, tt)
 none_up s x e = tt
 

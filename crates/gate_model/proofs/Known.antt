@@ -57,7 +57,7 @@ use Rattle.gate_model.specs.declared.life.SessionState.{SessionState}
 use Rattle.gate_model.specs.declared.reply.Reply.{Reply}
 use Rattle.gate_model.specs.Due.{can_leave}
 use Rattle.session_path.specs.Path.{PathState}
-use Rattle.gate_model.specs.Paths.{closed_path, closed_paths, lost_path, lost_paths, path_at, told_paths, with_path}
+use Rattle.gate_model.specs.Paths.{closed_path, closed_paths, lost_path, ended_paths, path_at, told_paths, with_path}
 use Rattle.gate_model.specs.Setup.{SiteText}
 use Rattle.gate_model.specs.declared.setup.Route.{Route}
 
@@ -283,11 +283,11 @@ fail_is : (code : ℕ) (why : Option Condition) (w : State) (l : Bool) (f : ℕ 
 fail_is code why w l f s = by (is_closing w.conn) refl
   where
     by : (b : Bool) → is_closing w.conn ≡ b
-        → seen (if b then sessions_lost w else failed code why w) ≡ with_peers (seen w) (record (peers_at f w) { client = close w.conn; paths = lost_paths w.paths })
+        → seen (if b then sessions_lost w else failed code why w) ≡ with_peers (seen w) (record (peers_at f w) { client = close w.conn; paths = ended_paths w.paths })
     by true e =
-        paths_is w l f (lost_paths w.paths) s
-        ∙ ap (λ (c : Connection). with_peers (seen w) (record (peers_of f (seen w)) { client = c; paths = lost_paths w.paths })) (sym (close_same w.conn e))
-    by false e = ap (λ (b : Bool). record (seen w) { conn = close w.conn; paths = lost_paths w.paths; closed = closes_at w.closed_at b w.moment })
+        paths_is w l f (ended_paths w.paths) s
+        ∙ ap (λ (c : Connection). with_peers (seen w) (record (peers_of f (seen w)) { client = c; paths = ended_paths w.paths })) (sym (close_same w.conn e))
+    by false e = ap (λ (b : Bool). record (seen w) { conn = close w.conn; paths = ended_paths w.paths; closed = closes_at w.closed_at b w.moment })
         (sym (close_closes w.conn.phase))
 
 -- the channels alone change

@@ -42,6 +42,8 @@ use Rattle.session_path.specs.Path.{IsThere, receiver_in}
 use Rattle.consume_path.specs.declared.receiving.TransferFault.{TransferFault}
 use Rattle.gate_model.specs.LinkCredits.{Credit, answered, detached, flowed, is_peer, left}
 use Rattle.gate_model.specs.LinkCredits.{new_credit}
+use Rattle.session_path.specs.Links.{without_wanted}
+use Rattle.session_path.proofs.Unwanted.{are_left}
 
 -- ---- what is found in lists
 
@@ -497,6 +499,13 @@ without_agree f s t a n = filter_agree f (λ l. not (is_wanted_receiver l)) n s 
     none : (b : Bool) → not (b && false) ≡ true
     none true = refl
     none false = refl
+
+-- nor are any others
+pub unwanted_agree : (f : ℕ → Option Credit) (s : LinksState) → Tied s → AllAgree f s → AllAgree f (without_wanted s)
+unwanted_agree f s t a n = elim (are_left n s t.rising) [
+  | inl (e, g) ↦ agree_as f s.handles None _ None _ e g refl
+  | inr (e, g) ↦ agree_as f s.handles _ _ _ _ e g (a n)
+]
 
 -- ---- one link changes
 

@@ -29,9 +29,11 @@ use Rattle.session_path.proofs.Ties.{found_passes}
 use Rattle.gate_model.specs.LinkCredits.{Answered, Asked, Begun, Credit, Detached, Flowed, LinkStep, Told, after_step, credit_by}
 use Rattle.gate_model.proofs.Granting.{owes_none}
 use Rattle.gate_model.proofs.LinkCredits.{AllAgree, AreDistinct, agree_on, attached_agree, flow_agree, link_detached_agree, link_failed_agree}
-use Rattle.gate_model.proofs.LinkCredits.{linked_to_agree, parted_agree, received_agree, without_agree}
+use Rattle.gate_model.proofs.LinkCredits.{linked_to_agree, parted_agree, received_agree, unwanted_agree, without_agree}
 use Rattle.gate_model.proofs.LinkRules.{Rules, count_of, is_mute}
 use Rattle.gate_model.proofs.LinkSends.{asked_agree, begun_agree, grant_agree, told_agree}
+use Rattle.session_path.proofs.Tied.{tied_without}
+use Rattle.session_path.specs.Links.{without_receivers}
 
 -- ---- the fold
 
@@ -72,7 +74,8 @@ module _ (f : ℕ → Option Credit) where
       subst (AllAgree f) (sym (dropped_same (detaching_of s) (record s { links = parted (detaching_of s) s.links })))
       (parted_agree f s.links (detaching_of s) t all (detaching_there s.publishes.list s.deliveries s.oks s.links t.rising))
   mute_agree event.LifeClosed s e t all = without_agree f s.links t all
-  mute_agree event.SessionLost s e t all = λ n. refl
+  mute_agree event.SessionLost s e t all = unwanted_agree f (without_receivers s.links) (tied_without s.links t) (without_agree f s.links t all)
+  mute_agree event.SessionEnded s e t all = λ n. refl
   mute_agree event.UpLost s e t all = λ n. refl
   mute_agree x s e t all = all
 

@@ -289,7 +289,12 @@ module _ (f : ℕ → Option ℕ) where
   stays (event.TransferSent frame count) s e n = record { each = n.each; held = n.held; one = n.one }
   stays event.DisposeSent s e n = subst (NamesIn f) (sym (disposed_same (next_settle_of s.deliveries.list) s)) n
   stays event.LifeClosed s e n = let k = kept (λ l. not (is_wanted_receiver l)) s.links n in record { each = k.each; held = k.held; one = k.one }
-  stays event.SessionLost s e n = record { each = tt; held = n.held; one = n.one }
+  stays event.SessionLost s e n = record {
+    each = all_filter (λ l. not (is_wanted l)) (IsNamed f) _ (all_filter (λ l. not (is_wanted_receiver l)) (IsNamed f) s.links.links n.each);
+    held = n.held;
+    one = n.one;
+  }
+  stays event.SessionEnded s e n = record { each = tt; held = n.held; one = n.one }
   stays event.UpLost s e n = record { each = tt; held = n.held; one = n.one }
   stays x s e n = n
 

@@ -249,7 +249,9 @@ module _ (xs : List LinkStep) where
       subst (AllHear xs) (sym (dropped_same (detaching_of s) (record s { links = parted (detaching_of s) s.links })))
       (parts (detaching_of s) s.links (detaching_there s.publishes.list s.deliveries s.oks s.links t.rising) a)
   hear_on event.LifeClosed s e t a = all_filter (λ l. not (is_wanted_receiver l)) (IsHeard xs s.links.handles) s.links.links a
-  hear_on event.SessionLost s e t a = tt
+  hear_on event.SessionLost s e t a =
+      all_filter (λ l. not (is_wanted l)) (IsHeard xs s.links.handles) _ (all_filter (λ l. not (is_wanted_receiver l)) (IsHeard xs s.links.handles) s.links.links a)
+  hear_on event.SessionEnded s e t a = tt
   hear_on event.UpLost s e t a = tt
   hear_on x s e t a = a
 

@@ -35,6 +35,8 @@ use Rattle.gate_model.proofs.Granting.{DeliveriesAre, grant_there}
 use Rattle.gate_model.proofs.Heard.{AllHold}
 use Rattle.gate_model.proofs.LinkCredits.{found_before, inserted_here, inserted_other, none_there, placed_here, placed_other}
 use Rattle.gate_model.proofs.Linking.{counted_anew, link_after, linked as found_after, recounts}
+use Rattle.session_path.specs.Links.{without_receivers}
+use Rattle.session_path.proofs.Ties.{rises_filter}
 
 -- ---- the sending link with a number
 
@@ -209,7 +211,10 @@ module _ (n : ℕ) where
       parts s.links (detaching_of s) t (detaching_there s.publishes.list s.deliveries s.oks s.links t.rising)
       (ap (λ (z : LinksState). sends n z.links) (sym (dropped_same (detaching_of s) (record s { links = parted (detaching_of s) s.links }))) ∙ f)
   sent_before event.LifeClosed s t ne f = left_sends n (λ l. not (is_wanted_receiver l)) s.links.links t.rising f
-  sent_before event.SessionLost s t ne f = absurd cc
+  sent_before event.SessionLost s t ne f =
+      left_sends n (λ l. not (is_wanted_receiver l)) s.links.links t.rising
+      (left_sends n (λ l. not (is_wanted l)) (without_receivers s.links).links (rises_filter _ 0 s.links.links t.rising) f)
+  sent_before event.SessionEnded s t ne f = absurd cc
   sent_before event.UpLost s t ne f = absurd cc
   sent_before x s t ne f = f
 
@@ -254,6 +259,7 @@ module _ (n : ℕ) where
   of_event (event.ContentWhole tag) s ne = refl
   of_event event.LifeClosed s ne = refl
   of_event event.SessionLost s ne = refl
+  of_event event.SessionEnded s ne = refl
   of_event event.UpLost s ne = (refl, refl)
   of_event x s ne = tt
 

@@ -71,6 +71,11 @@ use Rattle.gate_model.proofs.LinkRooms.{have_room}
 use Rattle.gate_model.proofs.LinkSends.{credit_there}
 use Rattle.gate_model.proofs.Publishing.{tells}
 use Rattle.gate_model.proofs.Settles.{CallsAre, is_there}
+use Rattle.session_path.specs.Links.{at_handle, detached_on, flowed_on, named}
+use Rattle.link_table.specs.Table.{named_by}
+use Rattle.session_path.specs.Path.{receiver_in}
+use Rattle.session_path.proofs.SameLinks.{flowed_if, flowed_same}
+use Rattle.session_path.specs.Events.{after_event}
 
 -- the fold after some steps
 abbrev credits : ℕ → List Step → ℕ → Option Credit
@@ -312,6 +317,64 @@ module _ (P : List LinkStep → LinksState → Type 0) (r : Rules P) (n life : �
               (no_fault (attach_fault_by q.1 s0) (sym (ap (λ (b : Bool). if b then attach_scope (attach_fault_by q.1 s0)
               else if (q.0 == 19) && not (is_of_session q.1) then unattached (is_attached (number_at q.1 4) s0) else last_scope) e) ∙ fine))
 
+      -- one that closes its channel changes no link
+      abbrev flow_scope : Option Scope
+      flow_scope = if (q.0 == 19) && not (is_of_session q.1) then unattached (is_attached (number_at q.1 4) s0) else last_scope
+
+      unnamed : (peer : ℕ) → is_attached peer s0 ≡ false → named peer s.links ≡ None
+      unnamed peer e = by (named_by s.links.handles peer) (ap (is_attached peer) (sym there) ∙ e)
+        where
+          by : (o : Option ℕ) → is_some o ≡ false → at_handle o s.links.links ≡ None
+          by None f = refl
+          by (Some k) f = absurd cc
+
+      flow_kept : (peer : ℕ) (count : Option ℕ) (credit : ℕ) → named peer s.links ≡ None → (after_event (event.FlowCame peer count credit false false) s).links ≡ s.links
+      flow_kept peer count credit none =
+          flowed_same (receiver_in (named peer s.links)) peer count credit false false s
+          ∙ ap (λ (o : Option PathLink). flowed_if (receiver_in o) peer count credit false false s.links) none
+          ∙ ap (λ (o : Option PathLink). flowed_on o count credit false false s.links) none
+
+      faulty : scope_in (peers h) n q payload ≡ Some scope.Channel → Agrees (heard_step q ++ link_steps n h) es
+      faulty e = by (q.0 == 18) ((q.0 == 19) && not (is_of_session q.1)) (q.0 == 22) (q.0 == 20) refl refl refl refl
+        where
+          attach_no : (o : Option AttachFault) → attach_scope o ≡ Some scope.Channel → ⊥
+          attach_no None f = absurd cc
+          attach_no (Some x) f = absurd cc
+
+          unattached_is : (b : Bool) → unattached b ≡ Some scope.Channel → b ≡ false
+          unattached_is true f = absurd cc
+          unattached_is false f = refl
+
+          no_attach : (a : Bool) → (q.0 == 18) ≡ a → (if a then attach_scope (attach_fault_by q.1 s0) else flow_scope) ≡ Some scope.Channel
+          no_attach a f = sym (ap (λ (x : Bool). if x then attach_scope (attach_fault_by q.1 s0) else flow_scope) f) ∙ e
+
+          no_flow : (b : Bool) → ((q.0 == 19) && not (is_of_session q.1)) ≡ b → flow_scope ≡ Some scope.Channel
+              → (if b then unattached (is_attached (number_at q.1 4) s0) else last_scope) ≡ Some scope.Channel
+          no_flow b f k = sym (ap (λ (x : Bool). if x then unattached (is_attached (number_at q.1 4) s0) else last_scope) f) ∙ k
+
+          no_transfer : (q.0 == 20) ≡ false → (q.0 == 22) ≡ true → last_scope ≡ Some scope.Channel → unattached (is_attached (number_at q.1 0) s0) ≡ Some scope.Channel
+          no_transfer f g k =
+              sym (ap (λ (x : Bool). if x then transfer_scope (transfer_error q.1 payload ((peers h).carried n) s0)
+              else if q.0 == 22 then unattached (is_attached (number_at q.1 0) s0) else None) f
+              ∙ ap (λ (x : Bool). if x then unattached (is_attached (number_at q.1 0) s0) else None) g) ∙ k
+
+          by : (a b c d : Bool) → (q.0 == 18) ≡ a → ((q.0 == 19) && not (is_of_session q.1)) ≡ b → (q.0 == 22) ≡ c → (q.0 == 20) ≡ d
+              → Agrees ((if a then answer_step (name_in (text_of (field q.1 0))) (number_at q.1 1)
+              else if b then Flowed (number_at q.1 4) (number_in (field q.1 5)) (credit_of (number_in (field q.1 6))) ∷ []
+              else if c then Detached (number_at q.1 0) ∷ [] else []) ++ link_steps n h) es
+          by true b c d f g i j = absurd (attach_no (attach_fault_by q.1 s0) (no_attach true f))
+          by false true c d f g i j =
+              let none : named (number_at q.1 4) s.links ≡ None = unnamed (number_at q.1 4) (unattached_is _ (no_flow true g (no_attach false f))) in
+              subst (λ (z : LinksState). P (Flowed (number_at q.1 4) (number_in (field q.1 5)) (credit_of (number_in (field q.1 6))) ∷ link_steps n h) z)
+              (flow_kept (number_at q.1 4) (number_in (field q.1 5)) (credit_of (number_in (field q.1 6))) none)
+              (r.flow_came (link_steps n h) (number_at q.1 4) (number_in (field q.1 5)) (credit_of (number_in (field q.1 6))) false false s (tied_after life es) all)
+          by false false true true f g i j = absurd (apart_codes q.0 22 20 i j refl)
+          by false false true false f g i j =
+              let none : named (number_at q.1 0) s.links ≡ None = unnamed (number_at q.1 0) (unattached_is _ (no_transfer j i (no_flow false g (no_attach false f)))) in
+              subst (λ (z : LinksState). P (Detached (number_at q.1 0) ∷ link_steps n h) z) (ap (λ (o : Option PathLink). detached_on o s.links) none)
+              (r.detach_came (link_steps n h) (number_at q.1 0) false s (tied_after life es) all)
+          by false false false d f g i j = all
+
       session_agrees : (o : Option Scope) → scope_in (peers h) n q payload ≡ o → Agrees ((heard_step q) ++ link_steps n h) (session_events (connection h) o n n q payload (path_at (paths_in h) n) ++ es)
       session_agrees None e = by (n == n) refl
         where
@@ -322,8 +385,8 @@ module _ (P : List LinkStep → LinksState → Type 0) (r : Rules P) (n life : �
       session_agrees (Some scope.Channel) e = by (n == n) refl (is_open (connection h) n)
         where
           by : (b : Bool) → (n == n) ≡ b → (c : Bool) → Agrees ((heard_step q) ++ link_steps n h) ((if b then closed_if c ++ event.SessionLost ∷ [] else []) ++ es)
-          by true f true = r.none _ s.links.handles
-          by true f false = r.none _ s.links.handles
+          by true f true = all_mute P r life (heard_step q ++ link_steps n h) (closed_if true ++ event.SessionLost ∷ []) es (refl, (refl, tt)) (faulty e)
+          by true f false = all_mute P r life (heard_step q ++ link_steps n h) (closed_if false ++ event.SessionLost ∷ []) es (refl, tt) (faulty e)
           by false f c = let yes : (n == n) ≡ true = grind (arith, nat_tests) in absurd cc
 
     -- of another channel

@@ -44,6 +44,13 @@ use Rattle.gate_model.proofs.Linking.{apart, counted_anew, link_after, linked as
 use Rattle.gate_model.proofs.Quotas.{number_is}
 use Rattle.gate_model.proofs.Settles.{CallsAre}
 use Rattle.gate_model.proofs.Standing.{flows_attached}
+use Rattle.session_path.specs.Links.{without_receivers}
+use Rattle.session_path.specs.Links.{without_wanted}
+use Rattle.session_path.proofs.Ties.{rises_filter}
+use Rattle.session_path.proofs.Tied.{tied_without}
+use Rattle.session_path.proofs.Unwanted.{are_left}
+use Rattle.std.proofs.Common.{inl}
+use Rattle.std.proofs.Common.{inr}
 
 -- ---- links that are up
 
@@ -250,7 +257,10 @@ module _ (r : Bool) (n : ℕ) where
   fit_after event.DisposeSent s t ne f = subst (λ (z : LinksState). Fit z.links) (sym (disposed_same (next_settle_of s.deliveries.list) s)) f
   fit_after event.DetachSent s t ne f = detach_went s t ne f
   fit_after event.LifeClosed s t ne f = left_fit (λ l. not (is_wanted_receiver l)) s.links.links t.rising f
-  fit_after event.SessionLost s t ne f = refl
+  fit_after event.SessionLost s t ne f =
+      left_fit (λ l. not (is_wanted l)) (without_receivers s.links).links (rises_filter _ 0 s.links.links t.rising)
+      (left_fit (λ l. not (is_wanted_receiver l)) s.links.links t.rising f)
+  fit_after event.SessionEnded s t ne f = refl
   fit_after event.UpLost s t ne f = refl
   fit_after x s t ne f = f
 
@@ -374,6 +384,7 @@ module _ (n : ℕ) where
   of_each (event.ContentWhole tag) s e = refl
   of_each event.LifeClosed s e = refl
   of_each event.SessionLost s e = refl
+  of_each event.SessionEnded s e = refl
   of_each event.UpLost s e = (refl, refl)
   of_each x s e = tt
 
@@ -517,6 +528,12 @@ module _ (n : ℕ) where
       by true i = absurd (no_clash _ e (subst (λ (k : ℕ). is_sent (sender_of (without k xs) n) ≡ false) (sym (eq_of m n i)) (ap is_sent (without_here n xs))))
       by false i = (refl, ap is_sent (sym (without_other n m xs i)) ∙ e)
 
+  unwanted_sent : (s : LinksState) → Tied s → Sent (without_wanted s).sending → Sent s.sending
+  unwanted_sent s t e = elim (are_left n s t.rising) [
+    | inl (f, g) ↦ absurd (no_clash _ e (ap is_sent f))
+    | inr (f, g) ↦ ap is_sent (sym f) ∙ e
+  ]
+
   pushed_sent : (xs : List SendingLink) (x : SendingLink) → x.attached ≡ false → Sent (xs ++ x ∷ []) → Sent xs
   pushed_sent xs x off e = by (sender_of xs n) (x.link == n) (ap is_sent (sym (pushed n xs x (x.link == n) refl)) ∙ e)
     where
@@ -638,7 +655,8 @@ module _ (n : ℕ) where
   sent_before event.DetachSent s t c e =
       parted_sent (detaching_of s) s.links
       (subst (λ (z : LinksState). Sent z.sending) (dropped_same (detaching_of s) (record s { links = parted (detaching_of s) s.links })) e)
-  sent_before event.SessionLost s t c e = absurd cc
+  sent_before event.SessionLost s t c e = (tt, unwanted_sent (without_receivers s.links) (tied_without s.links t) e)
+  sent_before event.SessionEnded s t c e = absurd cc
   sent_before event.UpLost s t c e = absurd cc
   sent_before x s t c e = (tt, e)
 

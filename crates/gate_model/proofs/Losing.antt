@@ -165,7 +165,7 @@ kept s h p f = record { closing = closes_on s h p f.closing; over = λ n life k 
 record Fails (s : Step) (h : List Step) : Type 0 where
   closing : is_closing (connection (s ∷ h)) ≡ true
   rest : ℕ → List PathEvent
-  is : (n : ℕ) → step_events n h s ≡ event.SessionLost ∷ rest n
+  is : (n : ℕ) → step_events n h s ≡ event.SessionEnded ∷ rest n
 
 fallen_by : (s : Step) (h : List Step) → Fails s h → IsFallen (s ∷ h)
 fallen_by s h f = record { closing = f.closing; over = λ n life k l t. by n life k (opens_channel n h s) t }

@@ -30,7 +30,7 @@ use Rattle.gate_model.specs.Folds.{Peers, carried_on, ended_on, leaving_in, path
 use Rattle.gate_model.specs.Folds.{peers, peers_by, peers_came, peers_closed, peers_heard, peers_left, peers_scoped, ran_out_in, scope_in}
 use Rattle.gate_model.specs.Lives.{is_of_channel}
 use Rattle.gate_model.specs.Paths.{attach_fault_by, closed_path, closed_paths, fault_in, field_error, has_left, is_attached, is_receiver}
-use Rattle.gate_model.specs.Paths.{lost_path, or_no_path, path_at, slot_at, with_path}
+use Rattle.gate_model.specs.Paths.{ended_path, lost_path, or_no_path, path_at, slot_at, with_path}
 use Rattle.gate_model.specs.Session.{has_room, is_of_session}
 use Rattle.gate_model.specs.Folds.{connection}
 use Rattle.gate_model.specs.State.{is_later, Began, Came, Fed, Gave, Heard, Joined, Lost, OutOfMemory}
@@ -84,14 +84,14 @@ scoped_many None n q payload p e = by (q.0 == 17)
     by : (b : Bool) → Long (if b then heard else peers_closed n (closing_code q payload (path_at p.paths n)) heard).paths
     by true = with_many n _ p.paths e
     by false = closed_many n (closing_code q payload (path_at p.paths n)) heard (with_many n _ p.paths e)
-scoped_many (Some scope.Connection) n q payload p e = each_many lost_path p.paths e
+scoped_many (Some scope.Connection) n q payload p e = each_many ended_path p.paths e
 scoped_many (Some scope.Channel) n q payload p e = ended_many (is_open p.client n) n closed_path (peers_parted n p) (with_many n lost_path p.paths e)
 
 meaning_many : (m : Meaning) (p : Peers) → Long p.paths → Long (peers_by m p).paths
 meaning_many (ten.OfSession g q payload) p e = scoped_many (scope_in p g q payload) g q payload (record p { carried = carried_on g q p.carried }) e
-meaning_many (ten.Closed x) p e = each_many lost_path p.paths e
-meaning_many ten.Refused p e = each_many lost_path p.paths e
-meaning_many (ten.Violation why) p e = each_many lost_path p.paths e
+meaning_many (ten.Closed x) p e = each_many ended_path p.paths e
+meaning_many ten.Refused p e = each_many ended_path p.paths e
+meaning_many (ten.Violation why) p e = each_many ended_path p.paths e
 meaning_many x p e = e
 
 reply_many : (u : Reply) (ps : List (Option PathState)) → Long ps → Long (paths_given u ps)
@@ -101,7 +101,7 @@ reply_many u ps e = e
 up_many : (later : Bool) (u : UpUnit) (ps : List (Option PathState)) → Long ps → Long (paths_given_up later u ps)
 up_many later (up.OnSession n u) ps e = with_many n _ ps e
 up_many true (up.End n why) ps e = each_many _ ps e
-up_many false (up.End n why) ps e = with_many n lost_path _ (each_many _ ps e)
+up_many false (up.End n why) ps e = with_many n ended_path _ (each_many _ ps e)
 up_many later u ps e = e
 
 wrote_many : (o : Option Reply) (ps : List (Option PathState)) → Long ps → Long (paths_wrote o ps)

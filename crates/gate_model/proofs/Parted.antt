@@ -34,6 +34,7 @@ use Rattle.session_path.specs.declared.path.Stage.{Stage}
 use Rattle.session_path.specs.declared.path.Stage.TheVariants.{Wanted}
 use Rattle.session_path.proofs.SameLinks.{attach_same, disposed_same, dropped_same, flow_sent_same, flowed_if, flowed_same, got_links, got_same}
 use Rattle.session_path.proofs.SameLinks.{transfer_same}
+use Rattle.session_path.proofs.Takes.{unless_lost}
 use Rattle.session_path.proofs.Ties.{dropped, unique}
 use Rattle.session_path.proofs.Wanted.{all_insert}
 use Rattle.gate_model.proofs.Basics.{and_left, and_right, left_false, right_false}
@@ -300,7 +301,8 @@ module _ (Fine : PathLink → Type 0) (kept : IsKept Fine) where
   step event.DetachSent s f a =
       subst AreFine (sym (dropped_same (detaching_of s) (record s { links = parted (detaching_of s) s.links }))) (parts s.links (detaching_of s) a)
   step event.LifeClosed s f a = all_filter _ Fine s.links.links a
-  step event.SessionLost s f a = tt
+  step event.SessionLost s f a = all_filter _ Fine _ (all_filter _ Fine s.links.links a)
+  step event.SessionEnded s f a = tt
   step event.UpLost s f a = tt
   step x s f a = a
 
@@ -361,7 +363,7 @@ grown x s ds r a = by x (arrives x) refl
         all_weaker _ _
         (λ k both is. covers_more k.link (transfers (Some l) part payload image again s.deliveries) ds
         (transfer_off k.link l part payload image again s.deliveries (both.1 is)) (both.0 is)) s.links.links
-        (all_both _ _ s.links.links a (others_take peer s.links l r e))
+        (all_both _ _ s.links.links a (others_take peer s.links l r (unless_lost s.lost _ l e)))
 
     by : (x : PathEvent) (b : Bool) → arrives x ≡ b → AreParted (delivery_events s x ++ ds) s
     by (event.TransferCame peer part payload image again) b e = arrived peer part payload image again (taking peer s) refl

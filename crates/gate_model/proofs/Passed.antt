@@ -323,7 +323,9 @@ step tied life es x a = by x
         subst (λ (z : LinksState). AreFine (F tied life es y) z.links) (sym (dropped_same (detaching_of s) (record s { links = parted (detaching_of s) s.links })))
         (parts (F tied life es y) s.links (detaching_of s) (untold tied life es y (λ k. refl) a))
     by event.LifeClosed = let y = event.LifeClosed in all_filter _ (Fine (F tied life es y)) s.links.links (untold tied life es y (λ k. refl) a)
-    by event.SessionLost = tt
+    by event.SessionLost =
+        let y = event.SessionLost in all_filter _ (Fine (F tied life es y)) _ (all_filter _ (Fine (F tied life es y)) s.links.links (untold tied life es y (λ k. refl) a))
+    by event.SessionEnded = tt
     by event.UpLost = tt
     by y = untold tied life es y (λ k. refl) a
 

@@ -44,7 +44,7 @@ use Rattle.gate_model.specs.Folds.{paths_in, peers, peers_by, peers_came, peers_
 use Rattle.gate_model.specs.Folds.{carried_on, going_in, peers_closed, peers_ended, peers_left, peers_lost, peers_parted, peers_scoped}
 use Rattle.gate_model.specs.Folds.{connection, peers_told, ran_out_in, routes_in, scope_in}
 use Rattle.gate_model.specs.Once.{is_channel_open, is_method_on}
-use Rattle.gate_model.specs.Paths.{attached_as, closed_path, closed_paths, fault_in, is_outcome, lost_path, lost_paths, name_in}
+use Rattle.gate_model.specs.Paths.{attached_as, closed_path, closed_paths, fault_in, is_outcome, lost_path, ended_paths, name_in}
 use Rattle.gate_model.specs.Paths.{no_paths, or_no_path, part_in, path_at, set_path, slot_at, text_of, transferred_by, told_paths, with_path}
 use Rattle.gate_model.specs.Picks.{ArePicks}
 use Rattle.gate_model.specs.Publishing.{attach_events, closed_if, closing, failing, given_event, heard_events}
@@ -63,6 +63,7 @@ use Rattle.gate_model.specs.Upstream.{container_by, meaning_by}
 use Rattle.gate_model.proofs.Known.{known, paths_are}
 use Rattle.gate_model.proofs.Slots.{map_long, map_slot, none_long, none_there, set_elsewhere, set_here, set_long, with_here}
 use Rattle.gate_model.specs.declared.setup.Route.{Route}
+use Rattle.gate_model.specs.Paths.{ended_path}
 
 -- ---- events on top of others
 
@@ -123,8 +124,8 @@ changes : (n k : ℕ) (ps : List (Option PathState)) (f : PathState → PathStat
 changes n k ps f xs e = changes_at n k ps f xs (e (path_at ps k))
 
 -- of all
-each_lost : (n : ℕ) (ps : List (Option PathState)) → Goes n ps (event.SessionLost ∷ []) (lost_paths ps)
-each_lost n ps = record { slot = map_slot ps n lost_path; long = map_long ps lost_path }
+each_lost : (n : ℕ) (ps : List (Option PathState)) → Goes n ps (event.SessionEnded ∷ []) (ended_paths ps)
+each_lost n ps = record { slot = map_slot ps n ended_path; long = map_long ps ended_path }
 
 each_told : (n : ℕ) (ps : List (Option PathState)) → Goes n ps (event.LinesWent ∷ []) (told_paths ps)
 each_told n ps = record { slot = map_slot ps n lines_told; long = map_long ps lines_told }
@@ -257,10 +258,10 @@ up_is : (later : Bool) (n : ℕ) (u : UpUnit) (ps : List (Option PathState)) →
 up_is later n (up.OnSession k u) ps = changes n k ps (path_given u) (given_event u ∷ []) (given_is u)
 up_is true n (up.End k why) ps = each_told n ps
 up_is false n (up.End k why) ps =
-    subst (λ (xs : List PathEvent). Goes n ps xs (with_path k lost_path (told_paths ps))) (by (k == n))
-    (behind (each_told n ps) (changes n k (told_paths ps) lost_path (event.SessionLost ∷ []) (λ s. refl)))
+    subst (λ (xs : List PathEvent). Goes n ps xs (with_path k ended_path (told_paths ps))) (by (k == n))
+    (behind (each_told n ps) (changes n k (told_paths ps) ended_path (event.SessionEnded ∷ []) (λ s. refl)))
   where
-    by : (b : Bool) → (if b then event.SessionLost ∷ [] else []) ++ event.LinesWent ∷ [] ≡ (if b then losing else event.LinesWent ∷ [])
+    by : (b : Bool) → (if b then event.SessionEnded ∷ [] else []) ++ event.LinesWent ∷ [] ≡ (if b then losing else event.LinesWent ∷ [])
     by true = refl
     by false = refl
 up_is later n x ps = stays n ps

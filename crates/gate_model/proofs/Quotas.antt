@@ -332,6 +332,7 @@ simple_events s (event.OkSent x) e = by (first_of s.oks)
 simple_events s event.LinesWent e = (refl, tt)
 simple_events s event.LifeClosed e = (refl, tt)
 simple_events s event.SessionLost e = (refl, tt)
+simple_events s event.SessionEnded e = (refl, tt)
 simple_events s event.UpLost e = (refl, (refl, tt))
 simple_events s x e = tt
 

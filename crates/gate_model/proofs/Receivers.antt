@@ -175,7 +175,8 @@ step event.DetachSent s t a =
     subst AreUnowed (sym (dropped_same (detaching_of s) (record s { links = parted (detaching_of s) s.links })))
     (parts s.links (detaching_of s) (detaching_there s.publishes.list s.deliveries s.oks s.links t.rising) a)
 step event.LifeClosed s t a = all_filter _ IsUnowed s.links.links a
-step event.SessionLost s t a = tt
+step event.SessionLost s t a = all_filter _ IsUnowed _ (all_filter _ IsUnowed s.links.links a)
+step event.SessionEnded s t a = tt
 step event.UpLost s t a = tt
 step x s t a = a
 

@@ -172,6 +172,7 @@ counts life (x ∷ es) = by x (counts life es)
     by (event.ReturnWent number) c = quiet n b ds (ReturnSent number) refl c
     by event.LinesWent c = quiet n b ds LinesTold refl c
     by event.SessionLost c = quiet n b ds (LinkGone None false) refl c
+    by event.SessionEnded c = quiet n b ds (LinkGone None false) refl c
     by event.UpLost c = quiet n b ds (LinkGone None false) refl c
     by x c = c
 

@@ -215,6 +215,7 @@ is_quiet_event (event.CancelCame tag no_wait) = false
 is_quiet_event (event.DeliverSent d) = false
 is_quiet_event event.LifeClosed = false
 is_quiet_event event.SessionLost = false
+is_quiet_event event.SessionEnded = false
 is_quiet_event event.UpLost = false
 is_quiet_event x = true
 
@@ -248,6 +249,7 @@ quiet_keeps s (event.CancelCame tag no_wait) e = absurd cc
 quiet_keeps s (event.DeliverSent d) e = absurd cc
 quiet_keeps s event.LifeClosed e = absurd cc
 quiet_keeps s event.SessionLost e = absurd cc
+quiet_keeps s event.SessionEnded e = absurd cc
 quiet_keeps s event.UpLost e = absurd cc
 quiet_keeps s x e = each_all Keeps plain_keeps s x tt
 
@@ -451,5 +453,6 @@ module _ (deliveries : DeliveriesAre) (closed : ClosedAre) (calls : CallsAre) (c
       by (event.DeliverSent d) old h m o = delivered es heard.1 before old d m
       by event.LifeClosed old h m o = absurd cc
       by event.SessionLost old h m o = absurd cc
+      by event.SessionEnded old h m o = absurd cc
       by event.UpLost old h m o = absurd cc
       by y old h m o = quiet es heard.1 before old y m refl

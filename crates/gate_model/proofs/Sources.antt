@@ -337,7 +337,12 @@ module _ (deliveries : DeliveriesAre) (shut : ClosedAre) (tied : LinksAre) (queu
         known = λ c. absurd cc;
         address = g.address;
       }
-      by event.SessionLost h = record { there = λ k t. absurd cc; known = λ c. absurd cc; address = g.address }
+      by event.SessionLost h = record {
+        there = λ k t. g.there k (any_less (takes_one k) (λ l. not (is_wanted_receiver l)) s.links.links (any_less (takes_one k) (λ l. not (is_wanted l)) _ t));
+        known = λ c. absurd cc;
+        address = g.address;
+      }
+      by event.SessionEnded h = record { there = λ k t. absurd cc; known = λ c. absurd cc; address = g.address }
       by event.UpLost h = record { there = λ k t. absurd cc; known = λ c. absurd cc; address = g.address }
       by y h = calm y es refl (λ k. refl) (λ k. refl) g
 
@@ -461,6 +466,7 @@ module _ (deliveries : DeliveriesAre) (shut : ClosedAre) (tied : LinksAre) (queu
       by (event.ContentWhole tag) h f old = old f
       by event.LifeClosed h f old = old f
       by event.SessionLost h f old = old f
+      by event.SessionEnded h f old = old f
       by event.UpLost h f old = old f
       by y h f old = old (kind_back k Get (delivery_events s y) ds (unadded s y tt) f)
 

@@ -228,6 +228,7 @@ is_steady (event.OkSent x) = false
 is_steady (event.DeliverSent d) = false
 is_steady event.LifeClosed = false
 is_steady event.SessionLost = false
+is_steady event.SessionEnded = false
 is_steady event.UpLost = false
 is_steady x = true
 
@@ -299,6 +300,7 @@ steady s (event.OkSent x) m e = absurd cc
 steady s (event.DeliverSent d) m e = absurd cc
 steady s event.LifeClosed m e = absurd cc
 steady s event.SessionLost m e = absurd cc
+steady s event.SessionEnded m e = absurd cc
 steady s event.UpLost m e = absurd cc
 steady s x m e = alike s _ refl refl refl
 
@@ -344,6 +346,7 @@ evens life (x ∷ es) m = by x m.0 (evens life es m.1)
         served_oks s d m (λ (xs : List PathOk). are_even xs s.names ≡ true) e (λ f. ap (are_even (drop 1 s.oks)) (sym (unnamed_get (first_of s.oks) s.names f)) ∙ even_drop s.oks s.names e)
     by event.LifeClosed m e = e
     by event.SessionLost m e = e
+    by event.SessionEnded m e = e
     by event.UpLost m e = e
     by x m e = more_even s _ (steady s x m refl).adds e
 
@@ -704,6 +707,7 @@ knows deliveries calls life k (x ∷ es) heard met open_yet = by x (knows delive
     by (event.ContentWhole tag) old h m o = calm (event.ContentWhole tag) old (refl, tt) refl (λ tag. refl) (steady s (event.ContentWhole tag) m refl)
     by event.LifeClosed old h m o = absurd cc
     by event.SessionLost old h m o = absurd cc
+    by event.SessionEnded old h m o = absurd cc
     by event.UpLost old h m o = absurd cc
     by y old h m o = calm y old (each_all IsStill plain_still s y tt) refl (λ tag. refl) (steady s y m refl)
 

@@ -381,6 +381,7 @@ tag_is life k (x ∷ es) tag no_ack e = by x e (tag_is life k es tag no_ack)
     by (event.ContentWhole tag) f old = old f
     by event.LifeClosed f old = old f
     by event.SessionLost f old = old f
+    by event.SessionEnded f old = old f
     by event.UpLost f old = old f
     by x f old = back x (unadded s x tt) f old
 

@@ -46,6 +46,9 @@ use Rattle.gate_model.proofs.LinkCredits.{placed_here, placed_other, pushed, sta
 use Rattle.gate_model.proofs.LinkSends.{free_at, held}
 use Rattle.gate_model.proofs.LinkSteps.{passes}
 use Rattle.gate_model.proofs.Losing.{less_rest}
+use Rattle.session_path.specs.Links.{without_wanted}
+use Rattle.session_path.proofs.Tied.{tied_without}
+use Rattle.session_path.proofs.Unwanted.{are_left}
 
 -- the addresses that a fold says of handles, or of publishes
 abbrev Names : Type 0
@@ -569,6 +572,18 @@ lost f a c s u ds none h = record {
   counted = h.counted;
 }
 
+-- all publishes are, and no link is wanted any more
+unlinked : (f a : Names) (c : ℕ) (s : LinksState) (ds : List PublishEvent) → Tied s → Holds f a c s ds → Holds f a c (without_wanted s) (LinkGone None false ∷ ds)
+unlinked f a c s ds t h = record {
+  keeps = λ n. elim (are_left n s t.rising) [
+    | inl (e, g) ↦ at_as f None _ None _ e g tt
+    | inr (e, g) ↦ at_as f _ _ _ _ e g (h.keeps n)
+  ];
+  single = single_filter _ s.sending h.single;
+  goes = gone_go a s.sending (without_wanted s).sending ds None false (λ n off. absurd cc) h.goes;
+  counted = h.counted;
+}
+
 calm : (f a : Names) (c : ℕ) (s : LinksState) (ds : List PublishEvent) (x : PublishEvent) → is_calm x ≡ true → Holds f a c s ds → Holds f a c s (x ∷ ds)
 calm f a c s ds x e h = record { keeps = h.keeps; single = h.single; goes = calm_go a s.sending ds x e h.goes; counted = count x e }
   where
@@ -627,7 +642,8 @@ module _ (f a : Names) (c : ℕ) where
   mute_holds (event.ReturnWent number) s ds e t h = calm f a c s.links ds (ReturnSent number) refl h
   mute_holds event.LinesWent s ds e t h = calm f a c s.links ds LinesTold refl h
   mute_holds event.LifeClosed s ds e t h = unwanted f a c ds s.links h
-  mute_holds event.SessionLost s ds e t h = lost f a c s.links (after_event event.SessionLost s).links ds refl h
+  mute_holds event.SessionLost s ds e t h = unlinked f a c (without_receivers s.links) ds (tied_without s.links t) (unwanted f a c ds s.links h)
+  mute_holds event.SessionEnded s ds e t h = lost f a c s.links (after_event event.SessionEnded s).links ds refl h
   mute_holds event.UpLost s ds e t h = lost f a c s.links (after_event event.UpLost s).links ds refl h
   mute_holds x s ds e t h = h
 

@@ -282,7 +282,7 @@ module _ (deliveries : DeliveriesAre) (closed : ClosedAre) (calls : CallsAre) (c
           ∙ ap (λ (b : Bool). b && is_all_covered l.link (on.after_events life ds).list) probe in
           parted (is_to_part l) (holds l.link s.deliveries.list) (is_stage_open l.stage) (is_over l.link s.deliveries) l.receives h over r p
       never x h (inr p) =
-          rested (is_stage_open l.stage) (is_at_rest l.link s.deliveries) (holds l.link s.deliveries.list) (list_any (is_empty_of l.link) s.oks) l.receives
+          rested (is_stage_open l.stage) (is_at_rest l.link s.deliveries) (holds l.link s.deliveries.list) (not s.deliveries.closed && list_any (is_empty_of l.link) s.oks) l.receives
           (count_by (is_publish_pending (Some l.link)) s.publishes.list == 0) h r p
 
       by : (b : Bool) → is_on l.link (fate_of m ds).link ≡ b → b ≡ false
@@ -324,5 +324,6 @@ module _ (deliveries : DeliveriesAre) (closed : ClosedAre) (calls : CallsAre) (c
       by (event.ContentWhole tag) old = (tt, old)
       by event.LifeClosed old = (tt, old)
       by event.SessionLost old = (tt, old)
+      by event.SessionEnded old = (tt, old)
       by event.UpLost old = (tt, (tt, old))
       by y old = undropped (delivery_events s y) ds (each_all (λ (d : DeliveryEvent). is_drop d ≡ false) plain s y tt) old

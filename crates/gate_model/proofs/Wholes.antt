@@ -151,6 +151,7 @@ plain life es (event.DispositionCame first last outcome settled) e t = quiet (Ou
 plain life es (event.ConfirmWent confirm) e t = quiet (ConfirmSent confirm) refl t
 plain life es event.LinesWent e t = quiet LinesTold refl t
 plain life es event.SessionLost e t = quiet (LinkGone None false) refl t
+plain life es event.SessionEnded e t = quiet (LinkGone None false) refl t
 plain life es event.UpLost e t = quiet (LinkGone None false) refl t
 plain life es x e t = t
 

@@ -723,6 +723,7 @@ module _ (deliveries : DeliveriesAre) (closed : ClosedAre) (calls : CallsAre) (q
         quiet s _ w (same_event on.LinesTold s.deliveries refl) refl refl refl refl refl old
     next event.LifeClosed w heard m even o f old = absurd cc
     next event.SessionLost w heard m even o f old = absurd cc
+    next event.SessionEnded w heard m even o f old = absurd cc
     next event.UpLost w heard m even o f old = absurd cc
     next x w heard m even o f old = quiet s (after_event x s) w (the_same s.deliveries) refl refl refl refl refl old
 

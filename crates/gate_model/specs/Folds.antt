@@ -14,7 +14,7 @@ use Rattle.close_translate.specs.declared.codes.TheConstants.{NOT_ALLOWED}
 use Rattle.close_translate.specs.declared.conditions.Scope.{Scope}
 use Rattle.close_translate.specs.declared.conditions.Scope.TheVariants as scope
 use Rattle.session_path.specs.Path.{PathState}
-use Rattle.gate_model.specs.Paths.{closed_path, closed_paths, lost_path, lost_paths, no_paths}
+use Rattle.gate_model.specs.Paths.{closed_path, closed_paths, lost_path, ended_paths, no_paths}
 use Rattle.gate_model.specs.Paths.{path_at, told_paths, with_path}
 use Rattle.machine_091.specs.Calls.{after_closing, after_ended, after_opened}
 use Rattle.machine_091.specs.State.{new_connection, is_closing, is_open, is_opening}
@@ -145,7 +145,7 @@ pub record Peers : Type 0 where
 -- the client's connection closes by the container's doing, unless it closes already: the paths are
 -- lost in any case
 abbrev pub peers_failed : Peers → Peers
-peers_failed p = record p { client = close p.client; paths = lost_paths p.paths }
+peers_failed p = record p { client = close p.client; paths = ended_paths p.paths }
 
 -- a channel does, if it is open
 abbrev pub ended_on : Bool → ℕ → (PathState → PathState) → Peers → Peers

@@ -59,4 +59,3 @@ pub mod Times
 pub mod Upstream
 pub mod Waiting
 pub mod Wishes
-pub mod Words

@@ -6,7 +6,7 @@ use Rattle.consume_path.specs.declared.receiving.TransferFault.{TransferFault}
 use Rattle.session_path.specs.Events as event
 use Rattle.session_path.specs.Events.{PathEvent, after_events}
 use Rattle.session_path.specs.Links.{has_number, named}
-use Rattle.session_path.specs.Path.{PathState, taking}
+use Rattle.session_path.specs.Path.{PathState, taking_in}
 use Rattle.session_path.specs.declared.path.PathLink.{PathLink}
 use Rattle.gate_model.specs.declared.channel.SessionUnit.TheVariants as unit
 use Rattle.gate_model.specs.declared.outgoing.Outgoing.TheVariants.{ToUp}
@@ -21,11 +21,11 @@ abbrev pub is_that_link : ℕ → Option PathLink → Bool
 is_that_link k None = false
 is_that_link k (Some l) = has_number k l
 
--- a transfer of the container passes a limit of the link with number k, on which it counts; or the
--- container detaches that link
+-- a transfer of the container passes a limit of the receiving link with number k, which both ends
+-- attached; or the container detaches that link
 abbrev pub passed_by : ℕ → PathState → PathEvent → Option TransferFault → Option TransferFault
 passed_by k s (event.LinkFailed peer fault) old =
-    if is_that_link k (taking peer s) then Some fault else old
+    if is_that_link k (taking_in (named peer s.links)) then Some fault else old
 passed_by k s (event.DetachCame peer not_found) old =
     if is_that_link k (named peer s.links) then None else old
 passed_by k s x old = old

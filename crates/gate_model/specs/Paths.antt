@@ -30,11 +30,11 @@ use Rattle.property_map.specs.declared.received.Received.{Received}
 use Rattle.link_table.specs.Table.{named_by}
 use Rattle.session_path.specs.Due.{joined_at, queue_at}
 use Rattle.session_path.specs.Links.{named}
-use Rattle.session_path.specs.Path.{closed, failed, receiver_in, transfer_came, transfer_fault}
+use Rattle.session_path.specs.Path.{closed, ended, failed, receiver_in, transfer_came}
 use Rattle.session_path.specs.Path.{PathState, attach_came, flow_came, lost, opened}
 use Rattle.session_path.specs.declared.path.AttachHeard.{AttachHeard}
 use Rattle.session_path.specs.Due.{held, held_size_of, lines}
-use Rattle.session_path.specs.Path.{lines_told, outcome_came}
+use Rattle.session_path.specs.Path.{lines_told, outcome_came, transfer_fault}
 use Rattle.open_items.specs.declared.lost.LostItem.{LostItem}
 use Rattle.gate_model.specs.declared.limits.TheConstants.{HELD_BYTES, HELD_PUBLISHES}
 use Rattle.session_path.specs.Links.{attach_fault, fault_unasked}
@@ -345,9 +345,13 @@ abbrev pub attach_out : ℕ → AttachDue → AttachOut
 attach_out name a =
     record { link = a.link; handle = a.handle; name = name; receives = a.receives }
 
--- the session of a channel is lost; the life of one closes
+-- the session of a channel is lost; the gateway's end of it went, or the connection is lost; the
+-- life of one closes
 abbrev pub lost_path : PathState → PathState
 lost_path s = lost s
+
+abbrev pub ended_path : PathState → PathState
+ended_path s = ended s
 
 abbrev pub closed_path : PathState → PathState
 closed_path s = closed s
@@ -355,8 +359,8 @@ closed_path s = closed s
 abbrev pub closed_paths : List (Option PathState) → List (Option PathState)
 closed_paths ps = map (option_map closed_path) ps
 
-abbrev pub lost_paths : List (Option PathState) → List (Option PathState)
-lost_paths ps = map (option_map lost_path) ps
+abbrev pub ended_paths : List (Option PathState) → List (Option PathState)
+ended_paths ps = map (option_map ended_path) ps
 
 -- the error of a detach
 abbrev pub error_for : Option TransferFault → Option Condition

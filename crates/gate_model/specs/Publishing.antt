@@ -160,18 +160,19 @@ heard_events limit n p payload s =
     else if p.0 == 23 then event.SessionLost ∷ []
     else []
 
--- the sessions are lost; what the report was owed before was reported
+-- no link of a session is left, since its connection is lost or the gateway's end went; what the
+-- report was owed before was reported
 abbrev pub losing : List PathEvent
-losing = event.SessionLost ∷ event.LinesWent ∷ []
+losing = event.SessionEnded ∷ event.LinesWent ∷ []
 
--- and so is the upstream end
+-- the upstream end is lost
 abbrev pub losing_up : List PathEvent
 losing_up = event.UpLost ∷ event.LinesWent ∷ []
 
 -- where the container closes, is at fault or isn't there, the sessions are lost, also those of a
 -- connection that closes already
 abbrev pub failing : List PathEvent
-failing = event.SessionLost ∷ []
+failing = event.SessionEnded ∷ []
 
 -- a channel that is open closes
 abbrev pub closed_if : Bool → List PathEvent

@@ -86,7 +86,7 @@ use Rattle.gate_model.specs.declared.life.SessionState.{SessionState}
 use Rattle.gate_model.specs.Lives.{is_of_channel}
 use Rattle.gate_model.specs.Paths.{attach_by, attach_fault_by, closed_path, closed_paths, fault_in}
 use Rattle.gate_model.specs.Paths.{is_attached, is_laden, lines_in, link_flowed}
-use Rattle.gate_model.specs.Paths.{is_not_found, lost_path, lost_paths, told_paths}
+use Rattle.gate_model.specs.Paths.{ended_path, is_not_found, lost_path, ended_paths, told_paths}
 use Rattle.gate_model.specs.Paths.{no_paths, outcome_by, path_at, set_path}
 use Rattle.gate_model.specs.Paths.{transfer_error, transferred, with_path}
 use Rattle.consume_path.specs.declared.delivery.Settle.{Settle}
@@ -244,7 +244,7 @@ failure code = refusal_with code 0 0
 
 -- the sessions of all channels are lost
 abbrev pub sessions_lost : State → State
-sessions_lost w = record w { paths = lost_paths w.paths }
+sessions_lost w = record w { paths = ended_paths w.paths }
 
 abbrev pub failed : ℕ → Option Condition → State → State
 failed code why w = record (sessions_lost w) {
@@ -497,7 +497,7 @@ fail_life n code why f w =
     if is_open w.conn n then life_failed n (refusal_on n code) why f w else w
 
 -- its session is lost, also where the channel is closing already: no publish of it waits for an
--- outcome any more, and nothing that comes on its links counts (AMQP 1.0 2.5.6, 2.6.12)
+-- outcome any more, and no transfer that comes on its links counts (AMQP 1.0 2.5.6, 2.6.12)
 abbrev pub session_lost : ℕ → State → State
 session_lost n w = record w { paths = with_path n lost_path w.paths }
 
@@ -853,7 +853,7 @@ is_later c u = false
 abbrev pub paths_given_up : Bool → UpUnit → List (Option PathState) → List (Option PathState)
 paths_given_up later (up.OnSession n u) ps = with_path n (path_given u) ps
 paths_given_up later (up.End n why) ps =
-    if later then told_paths ps else with_path n lost_path (told_paths ps)
+    if later then told_paths ps else with_path n ended_path (told_paths ps)
 paths_given_up later u ps = ps
 
 abbrev pub is_attach : SessionUnit → Bool

@@ -5,4 +5,3 @@ pub mod Meaning
 pub mod PairStates
 pub mod Silence
 pub mod Times
-pub mod Words

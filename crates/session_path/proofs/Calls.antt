@@ -28,7 +28,7 @@ use Rattle.session_path.specs.declared.path.PathLink.{PathLink}
 use Rattle.session_path.specs.declared.path.PathOk.{PathOk}
 use Rattle.session_path.specs.declared.path.PathOk.TheVariants as ok
 use Rattle.session_path.specs.Links.{LinksState, Rises, asked_by, attached, free_number, has_number}
-use Rattle.session_path.specs.Links.{is_given, is_wanted_receiver, link_asked, link_detached}
+use Rattle.session_path.specs.Links.{is_given, is_wanted, is_wanted_receiver, link_asked, link_detached}
 use Rattle.session_path.specs.Links.{link_failed, linked_to, named, parted, told_on, with_receiver}
 use Rattle.session_path.specs.Links.{with_wanted}
 use Rattle.session_path.specs.Path.{IsThere, PathState, arrival_on, detaching_of, fault_on, first_of}
@@ -42,7 +42,7 @@ use Rattle.session_path.specs.Events.{LinkFailed, DispositionCame, AttachSent, L
 use Rattle.session_path.specs.Events.{TransferSent, SettleSent, DisposeSent, DetachSent}
 use Rattle.session_path.specs.Events.{ConfirmWent, ReturnWent, DeliverSent, ContentSent}
 use Rattle.session_path.specs.Events.{ContentWhole, OkSent, LinesWent, LifeClosed, SessionLost}
-use Rattle.session_path.specs.Events.{UpLost, after_event, after_events, arrivals, begins}
+use Rattle.session_path.specs.Events.{SessionEnded, UpLost, after_event, after_events, arrivals, begins}
 use Rattle.session_path.specs.Events.{cancels, counts, deliveries_of, delivery_events, disposes}
 use Rattle.session_path.specs.Events.{drops, echoes, empties, flows, gets, globals, grants}
 use Rattle.session_path.specs.Events.{prefetches, transfers}
@@ -57,7 +57,7 @@ use Rattle.session_path.proofs.SameLinks.{flowed_if, flowed_same, got_links, got
 use Rattle.session_path.proofs.SameLinks.{transfer_same}
 use Rattle.session_path.proofs.Takes.{takes_asked, takes_attached, takes_detached, takes_failed}
 use Rattle.session_path.proofs.Takes.{takes_flowed, takes_linked, takes_parted, takes_told}
-use Rattle.session_path.proofs.Takes.{taking_takes}
+use Rattle.session_path.proofs.Takes.{taking_takes, unless_lost}
 use Rattle.session_path.proofs.Tied.{Tied, tied_after}
 use Rattle.session_path.proofs.Ties.{and_left, and_right, eq_to, found_passes, no_clash, or_left}
 use Rattle.session_path.proofs.Ties.{or_right, or_true}
@@ -280,7 +280,7 @@ module _ (life : ℕ) where
         came_goes = more life s.links.links g s.deliveries came e refl (range, right) r
 
         known : knows l.link s.deliveries.links ≡ true
-        known = ap (λ (d : DeliveryState). knows l.link d.links) e ∙ r.there l.link (taking_takes peer s.links l f)
+        known = ap (λ (d : DeliveryState). knows l.link d.links) e ∙ r.there l.link (taking_takes peer s.links l (unless_lost s.lost _ l f))
 
         by : (b : Bool) → is_last part ≡ b → Goes life s.links.links ((arrivals b l.link image again (delivery_event came s.deliveries) ++ came ∷ []) ++ g)
         by true last =
@@ -366,7 +366,10 @@ module _ (life : ℕ) where
   step (OkSent ok) s g t e heard r = globalled s.links.links g (first_of s.oks) r
   step LinesWent s g t e heard r = calm life s.links.links g on.LinesTold refl tt r
   step LifeClosed s g t e heard r = shut life s.links.links (filter (λ l. not (is_wanted_receiver l)) s.links.links) g (λ n. any_less (takes_one n) (λ l. not (is_wanted_receiver l)) s.links.links) r
-  step SessionLost s g t e heard r = shut life s.links.links [] g (λ n none. absurd (cc)) r
+  step SessionLost s g t e heard r =
+      shut life s.links.links (filter (λ l. not (is_wanted l)) (filter (λ l. not (is_wanted_receiver l)) s.links.links)) g
+      (λ n b. any_less (takes_one n) (λ l. not (is_wanted_receiver l)) s.links.links (any_less (takes_one n) (λ l. not (is_wanted l)) _ b)) r
+  step SessionEnded s g t e heard r = shut life s.links.links [] g (λ n none. absurd (cc)) r
   step UpLost s g t e heard r = calm life [] (on.Closed ∷ g) on.EndLost refl tt (shut life s.links.links [] g (λ n none. absurd (cc)) r)
 
   goes : (h : List PathEvent) → AreHeard life h → Goes life (after_events life h).links.links (deliveries_of life h)

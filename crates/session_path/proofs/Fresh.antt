@@ -32,7 +32,7 @@ use Rattle.session_path.specs.Events.{LinkFailed, DispositionCame, AttachSent, L
 use Rattle.session_path.specs.Events.{TransferSent, SettleSent, DisposeSent, DetachSent}
 use Rattle.session_path.specs.Events.{ConfirmWent, ReturnWent, DeliverSent, ContentSent}
 use Rattle.session_path.specs.Events.{ContentWhole, OkSent, LinesWent, LifeClosed, SessionLost}
-use Rattle.session_path.specs.Events.{UpLost, after_event, after_events}
+use Rattle.session_path.specs.Events.{SessionEnded, UpLost, after_event, after_events}
 use Rattle.session_path.proofs.SameLinks.{attach_same, disposed_same, dropped_same, flow_sent_same}
 use Rattle.session_path.proofs.SameLinks.{got_links, got_same}
 use Rattle.session_path.proofs.SameLinks.{flowed_if, flowed_same, transfer_same}
@@ -202,7 +202,8 @@ fresh_step (ContentWhole tag) s a = a
 fresh_step (OkSent ok) s a = a
 fresh_step LinesWent s a = a
 fresh_step LifeClosed s a = all_filter _ IsFresh s.links.links a
-fresh_step SessionLost s a = tt
+fresh_step SessionLost s a = all_filter _ IsFresh _ (all_filter _ IsFresh s.links.links a)
+fresh_step SessionEnded s a = tt
 fresh_step UpLost s a = tt
 
 pub fresh_after : (life : ℕ) (h : List PathEvent) → AreFresh (after_events life h).links

@@ -15,3 +15,4 @@ pub mod LinkAttaches
 pub mod Numbers
 pub mod Takes
 pub mod Calls
+pub mod Unwanted

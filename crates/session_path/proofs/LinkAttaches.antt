@@ -18,7 +18,7 @@ use Rattle.session_path.specs.Links.{failed_by, failed_on, flowed_on, free_numbe
 use Rattle.session_path.specs.Links.{given_on}
 use Rattle.session_path.specs.Links.{gone_on, has_number, is_asked_as, is_at, is_given, is_left}
 use Rattle.session_path.specs.Links.{is_other_end, is_stage_asked, is_stage_whole}
-use Rattle.session_path.specs.Links.{is_wanted, left_by, link_asked, link_detached, link_failed}
+use Rattle.session_path.specs.Links.{is_wanted, is_wanted_receiver, left_by, link_asked, link_detached, link_failed}
 use Rattle.session_path.specs.Links.{link_flowed, linked_to, named, parted, put, told_by, told_on}
 use Rattle.session_path.specs.Links.{told_once, wanted_link, with_link_to, with_receiver}
 use Rattle.session_path.specs.Path.{IsThere, PathState, detaching_of, flow_of, get_link}
@@ -30,7 +30,7 @@ use Rattle.session_path.specs.Events.{LinkFailed, DispositionCame, AttachSent, L
 use Rattle.session_path.specs.Events.{TransferSent, SettleSent, DisposeSent, DetachSent}
 use Rattle.session_path.specs.Events.{ConfirmWent, ReturnWent, DeliverSent, ContentSent}
 use Rattle.session_path.specs.Events.{ContentWhole, OkSent, LinesWent, LifeClosed, SessionLost}
-use Rattle.session_path.specs.Events.{UpLost, after_event, after_events}
+use Rattle.session_path.specs.Events.{SessionEnded, UpLost, after_event, after_events}
 use Rattle.session_path.specs.Attaches.{asks_as, attaches_as, times_asked, times_attached}
 use Rattle.session_path.proofs.Idle.{detaching_there}
 use Rattle.session_path.proofs.SameLinks.{attach_same, disposed_same, dropped_same, flow_sent_same}
@@ -96,6 +96,11 @@ waiting_filter name o (l ∷ ls) = by (o l) (waiting_filter name o ls)
     by : (b : Bool) → waiting name (filter o ls) ≤ waiting name ls → waiting name (cond b (l ∷ filter o ls) (filter o ls)) ≤ one (is_asked_at name l) + waiting name ls
     by true e = omega arith
     by false e = omega arith
+
+waiting_unwanted : (name : ℕ) (ls : List PathLink) → waiting name (filter (λ l. not (is_wanted l)) (filter (λ l. not (is_wanted_receiver l)) ls)) ≤ waiting name ls
+waiting_unwanted name ls =
+    let a = waiting_filter name (λ l. not (is_wanted l)) (filter (λ l. not (is_wanted_receiver l)) ls) in
+    let b = waiting_filter name (λ l. not (is_wanted_receiver l)) ls in omega arith
 
 -- the steps: no more are asked for than before
 
@@ -297,7 +302,8 @@ step name times asked (ContentWhole tag) s t e = stays times asked (waiting name
 step name times asked (OkSent ok) s t e = stays times asked (waiting name s.links.links) _ e (same (waiting name s.links.links))
 step name times asked LinesWent s t e = stays times asked (waiting name s.links.links) _ e (same (waiting name s.links.links))
 step name times asked LifeClosed s t e = stays times asked (waiting name s.links.links) _ e (waiting_filter name _ s.links.links)
-step name times asked SessionLost s t e = stays times asked (waiting name s.links.links) _ e (low (waiting name s.links.links))
+step name times asked SessionLost s t e = stays times asked (waiting name s.links.links) _ e (waiting_unwanted name s.links.links)
+step name times asked SessionEnded s t e = stays times asked (waiting name s.links.links) _ e (low (waiting name s.links.links))
 step name times asked UpLost s t e = stays times asked (waiting name s.links.links) _ e (low (waiting name s.links.links))
 
 attached_waiting : (life name : ℕ) (h : List PathEvent) → times_attached life name h + waiting name (after_events life h).links.links ≤ times_asked name h

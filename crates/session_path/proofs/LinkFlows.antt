@@ -34,7 +34,7 @@ use Rattle.session_path.specs.Events.{LinkFailed, DispositionCame, AttachSent, L
 use Rattle.session_path.specs.Events.{TransferSent, SettleSent, DisposeSent, DetachSent}
 use Rattle.session_path.specs.Events.{ConfirmWent, ReturnWent, DeliverSent, ContentSent}
 use Rattle.session_path.specs.Events.{ContentWhole, OkSent, LinesWent, LifeClosed, SessionLost}
-use Rattle.session_path.specs.Events.{UpLost, after_event, after_events}
+use Rattle.session_path.specs.Events.{SessionEnded, UpLost, after_event, after_events}
 use Rattle.session_path.specs.Flows.{causes_by, causes_on, echoes_on, flows_by, flows_on, given_in}
 use Rattle.session_path.specs.Flows.{given_named, is_link, left_in, owed_in}
 use Rattle.session_path.specs.Flows.{owed_on}
@@ -44,7 +44,7 @@ use Rattle.session_path.proofs.SameLinks.{attach_same, disposed_same, dropped_sa
 use Rattle.session_path.proofs.SameLinks.{flowed_if, flowed_same, got_links, got_same}
 use Rattle.session_path.proofs.SameLinks.{transfer_same}
 use Rattle.session_path.proofs.Ties.{and_left, dropped, eq_of, eq_to, found_number, found_passes}
-use Rattle.session_path.proofs.Ties.{gone_is, ne_to, no_clash, rises_above}
+use Rattle.session_path.proofs.Ties.{gone_is, ne_to, no_clash, none_at, rises_above, rises_filter}
 use Rattle.session_path.proofs.Wanted.{absent}
 use Rattle.session_path.proofs.Tied.{Tied, tied_after}
 
@@ -111,10 +111,6 @@ owed_same n p ls l x r e same owes =
 
 -- a link that is wanted
 
-none_at : (n : ℕ) (ls : List PathLink) → AllByRecursion (λ k. (k.link == n) ≡ false) ls → find (has_number n) ls ≡ None
-none_at n [] a = refl
-none_at n (l ∷ ls) a = ap (λ b. cond b (Some l) (find (has_number n) ls)) a.0 ∙ none_at n ls a.1
-
 owed_insert : (n k i : ℕ) (receives : Bool) (ls : List PathLink) → AllByRecursion (λ l. (l.link == k) ≡ false) ls → owed_on n (insert ls i (wanted_link k receives)) ≡ owed_on n ls
 owed_insert n k zero receives ls a = by (k == n) refl
   where
@@ -142,25 +138,33 @@ owed_linked n address s t = by (is_some (link_to s.sending address))
 owed_received : (n : ℕ) (s : LinksState) → Tied s → owed_on n (with_receiver s).links ≡ owed_on n s.links
 owed_received n s t = owed_insert n (free_number s.links) (free_number s.links) true s.links (absent s.links t.rising)
 
--- receiving links that are wanted no more
+-- links that are wanted no more
 
-owed_without : (n m : ℕ) (ls : List PathLink) → Rises m ls → AllByRecursion IsFresh ls → owed_on n (filter (λ l. not (is_wanted_receiver l)) ls) ≡ owed_on n ls
-owed_without n m [] r fresh = refl
-owed_without n m (l ∷ ls) r fresh = by (is_wanted_receiver l) refl (l.link == n) refl (owed_without n (l.link + 1) ls r.1 fresh.1)
+owed_without : (out : PathLink → Bool) → ((k : PathLink) → out k ≡ true → is_wanted k ≡ true) → (n m : ℕ) (ls : List PathLink) → Rises m ls → AllByRecursion IsFresh ls
+    → owed_on n (filter (λ l. not (out l)) ls) ≡ owed_on n ls
+owed_without out wanted n m [] r fresh = refl
+owed_without out wanted n m (l ∷ ls) r fresh = by (out l) refl (l.link == n) refl (owed_without out wanted n (l.link + 1) ls r.1 fresh.1)
   where
     stay : List PathLink
-    stay = filter (λ k. not (is_wanted_receiver k)) ls
+    stay = filter (λ k. not (out k)) ls
 
     above : l.link ≡ n → AllByRecursion (λ k. (k.link == n) ≡ false) stay
-    above same = all_filter (λ k. not (is_wanted_receiver k)) (λ k. (k.link == n) ≡ false) ls
+    above same = all_filter (λ k. not (out k)) (λ k. (k.link == n) ≡ false) ls
         (all_weaker (λ k. l.link + 1 ≤ k.link) _ (λ k le. ne_to k.link n (λ s. omega arith)) ls (rises_above (l.link + 1) ls r.1))
 
-    by : (b : Bool) → is_wanted_receiver l ≡ b → (c : Bool) → (l.link == n) ≡ c → owed_on n stay ≡ owed_on n ls
+    by : (b : Bool) → out l ≡ b → (c : Bool) → (l.link == n) ≡ c → owed_on n stay ≡ owed_on n ls
         → owed_in (find (has_number n) (cond (not b) (l ∷ stay) stay)) ≡ owed_in (cond c (Some l) (find (has_number n) ls))
-    by true e true f ih = ap owed_in (none_at n stay (above (eq_of l.link n f))) ∙ sym (fresh.0 (and_left (is_wanted l) l.receives e))
+    by true e true f ih = ap owed_in (none_at n stay (above (eq_of l.link n f))) ∙ sym (fresh.0 (wanted l e))
     by true e false f ih = ih
     by false e true f ih = ap (λ b. owed_in (cond b (Some l) (find (has_number n) stay))) f
     by false e false f ih = ap (λ b. owed_in (cond b (Some l) (find (has_number n) stay))) f ∙ ih
+
+owed_closed : (n : ℕ) (ls : List PathLink) → Rises 0 ls → AllByRecursion IsFresh ls → owed_on n (filter (λ l. not (is_wanted_receiver l)) ls) ≡ owed_on n ls
+owed_closed n ls r fresh = owed_without is_wanted_receiver (λ k e. and_left (is_wanted k) k.receives e) n 0 ls r fresh
+
+owed_unwanted : (n : ℕ) (ls : List PathLink) → Rises 0 ls → AllByRecursion IsFresh ls → owed_on n (filter (λ l. not (is_wanted l)) (filter (λ l. not (is_wanted_receiver l)) ls)) ≡ owed_on n ls
+owed_unwanted n ls r fresh =
+    owed_without is_wanted (λ k e. e) n 0 _ (rises_filter _ 0 ls r) (all_filter _ IsFresh ls fresh) ∙ owed_closed n ls r fresh
 
 -- one that is no more
 
@@ -394,8 +398,9 @@ step n flows causes ContentSent s t fresh e = kept flows (owed_on n s.links.link
 step n flows causes (ContentWhole tag) s t fresh e = kept flows (owed_on n s.links.links) _ causes e refl
 step n flows causes (OkSent ok) s t fresh e = kept flows (owed_on n s.links.links) _ causes e refl
 step n flows causes LinesWent s t fresh e = kept flows (owed_on n s.links.links) _ causes e refl
-step n flows causes LifeClosed s t fresh e = kept flows (owed_on n s.links.links) _ causes e (owed_without n 0 s.links.links t.rising fresh)
-step n flows causes SessionLost s t fresh e = lost flows
+step n flows causes LifeClosed s t fresh e = kept flows (owed_on n s.links.links) _ causes e (owed_closed n s.links.links t.rising fresh)
+step n flows causes SessionLost s t fresh e = kept flows (owed_on n s.links.links) _ causes e (owed_unwanted n s.links.links t.rising fresh)
+step n flows causes SessionEnded s t fresh e = lost flows
 step n flows causes UpLost s t fresh e = lost flows
 
 pub flows_are : (life n : ℕ) (h : List PathEvent) → flows_on life n h + owed_on n (after_events life h).links.links ≡ causes_on life n h

@@ -37,7 +37,7 @@ use Rattle.session_path.specs.Events.{LinkFailed, DispositionCame, AttachSent, L
 use Rattle.session_path.specs.Events.{TransferSent, SettleSent, DisposeSent, DetachSent}
 use Rattle.session_path.specs.Events.{ConfirmWent, ReturnWent, DeliverSent, ContentSent}
 use Rattle.session_path.specs.Events.{ContentWhole, OkSent, LinesWent, LifeClosed, SessionLost}
-use Rattle.session_path.specs.Events.{UpLost, after_event, after_events, arrivals, begins}
+use Rattle.session_path.specs.Events.{SessionEnded, UpLost, after_event, after_events, arrivals, begins}
 use Rattle.session_path.specs.Events.{deliveries_of, delivery_events, disposes, drops, flows}
 use Rattle.session_path.specs.Events.{grants}
 use Rattle.session_path.specs.Events.{cancels, counts, echoes, empties, gets, globals, losses}
@@ -87,6 +87,7 @@ publish_step life (OkSent ok) s h e = e
 publish_step life LinesWent s h e = ap (publish_event LinesTold) e
 publish_step life LifeClosed s h e = e
 publish_step life SessionLost s h e = ap (publish_event (LinkGone None false)) e
+publish_step life SessionEnded s h e = ap (publish_event (LinkGone None false)) e
 publish_step life UpLost s h e = ap (publish_event (LinkGone None false)) e
 
 pub publishes_are : (life : ℕ) (h : List PathEvent) → (after_events life h).publishes ≡ publishes_after life (publishes_of life h)
@@ -165,6 +166,7 @@ oks_are life (x ∷ h) a = by x (oks_are life h a.1) a.0
     by LinesWent e f = none (oks_sent h) (after_events life h).oks (oks_owed life h) e
     by LifeClosed e f = none (oks_sent h) (after_events life h).oks (oks_owed life h) e
     by SessionLost e f = none (oks_sent h) (after_events life h).oks (oks_owed life h) e
+    by SessionEnded e f = none (oks_sent h) (after_events life h).oks (oks_owed life h) e
     by UpLost e f = none (oks_sent h) (after_events life h).oks (oks_owed life h) e
 
 settle_more : (due told_now told_then : Bool) (x : Settling) (sent due_list all : List Settling) → told_now ≡ told_then → sent ++ due_list ≡ all
@@ -211,7 +213,8 @@ settles_are life (x ∷ h) a = by x (settles_are life h a.1) a.0
     by (OkSent ok) e f = same_all (settles_sent h) (after_events life h).settles (settles_owed life h) e
     by LinesWent e f = same_all (settles_sent h) (after_events life h).settles (settles_owed life h) e
     by LifeClosed e f = same_all (settles_sent h) (after_events life h).settles (settles_owed life h) e
-    by SessionLost e f = nil (settles_sent h ++ []) ∙ nil (settles_sent h)
+    by SessionLost e f = same_all (settles_sent h) (after_events life h).settles (settles_owed life h) e
+    by SessionEnded e f = nil (settles_sent h ++ []) ∙ nil (settles_sent h)
     by UpLost e f = nil (settles_sent h ++ []) ∙ nil (settles_sent h)
 
 -- the deliveries
@@ -345,6 +348,7 @@ delivery_step life (OkSent ok) s h e = global_step life (first_of s.oks) s.deliv
 delivery_step life LinesWent s h e = ap (delivery_event on.LinesTold) e
 delivery_step life LifeClosed s h e = ap (delivery_event on.Closed) e
 delivery_step life SessionLost s h e = ap (delivery_event on.Closed) e
+delivery_step life SessionEnded s h e = ap (delivery_event on.Closed) e
 delivery_step life UpLost s h e = ap (λ d. delivery_event on.EndLost (delivery_event on.Closed d)) e
 
 pub deliveries_are : (life : ℕ) (h : List PathEvent) → (after_events life h).deliveries ≡ deliveries_after life (deliveries_of life h)

@@ -130,6 +130,11 @@ takes_parted n s l t e = by (is_left l) refl
     by true is = ap (takes n) (gone_is (has_number l.link) s.sending s.links s.handles l t e is) ∙ dropped_takes n l.link s.links
     by false is = given_takes n s.links (given_by l) (not_taking (given_by l) refl)
 
+-- what is found unless the session is lost
+pub unless_lost : (lost : Bool) (o : Option PathLink) (l : PathLink) → cond lost None o ≡ Some l → o ≡ Some l
+unless_lost true o l e = absurd cc
+unless_lost false o l e = e
+
 -- a link that takes transfers
 pub taking_takes : (peer : ℕ) (s : LinksState) (l : PathLink) → taking_in (named peer s) ≡ Some l → takes l.link s.links ≡ true
 taking_takes peer s l e = by (named_by s.handles peer) e

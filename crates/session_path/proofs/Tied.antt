@@ -26,7 +26,7 @@ use Rattle.session_path.specs.Events.{LinkFailed, DispositionCame, AttachSent, L
 use Rattle.session_path.specs.Events.{TransferSent, SettleSent, DisposeSent, DetachSent}
 use Rattle.session_path.specs.Events.{ConfirmWent, ReturnWent, DeliverSent, ContentSent}
 use Rattle.session_path.specs.Events.{ContentWhole, OkSent, LinesWent, LifeClosed, SessionLost}
-use Rattle.session_path.specs.Events.{UpLost, after_event, after_events}
+use Rattle.session_path.specs.Events.{SessionEnded, UpLost, after_event, after_events}
 use Rattle.session_path.proofs.Idle.{detaching_there}
 use Rattle.session_path.proofs.SameLinks.{attach_same, disposed_same, dropped_same, flow_sent_same}
 use Rattle.session_path.proofs.SameLinks.{flowed_if, flowed_same, got_links, got_same}
@@ -35,6 +35,7 @@ use Rattle.session_path.proofs.Ties.{answered_tied, asked_tied, detached_tied, f
 use Rattle.session_path.proofs.Ties.{filtered_tied, flowed_tied, framed_tied}
 use Rattle.session_path.proofs.Ties.{given_tied, gone_tied}
 use Rattle.session_path.proofs.Ties.{told_once_tied}
+use Rattle.session_path.proofs.Unwanted.{unwanted_tied}
 use Rattle.session_path.proofs.Wanted.{inserted_tied, wanted_receives, wanted_tied}
 
 abbrev pub Tied : LinksState → Type 0
@@ -182,7 +183,8 @@ tied_step (ContentWhole tag) s t = t
 tied_step (OkSent ok) s t = t
 tied_step LinesWent s t = t
 tied_step LifeClosed s t = tied_without s.links t
-tied_step SessionLost s t = none_tied (without_receivers s.links)
+tied_step SessionLost s t = unwanted_tied (without_receivers s.links) (tied_without s.links t)
+tied_step SessionEnded s t = none_tied (without_receivers s.links)
 tied_step UpLost s t = none_tied (without_receivers s.links)
 
 pub tied_after : (life : ℕ) (h : List PathEvent) → Tied (after_events life h).links

@@ -80,6 +80,11 @@ pub rises_above : (n : ℕ) (ls : List PathLink) → Rises n ls → AllByRecursi
 rises_above n [] r = tt
 rises_above n (l ∷ ls) r = (r.0, all_weaker (λ k. l.link + 1 ≤ k.link) (λ k. n ≤ k.link) (λ k h. let a = r.0 in omega arith) ls (rises_above (l.link + 1) ls r.1))
 
+-- none is found whose number none has
+pub none_at : (n : ℕ) (ls : List PathLink) → AllByRecursion (λ k. (k.link == n) ≡ false) ls → find (has_number n) ls ≡ None
+none_at n [] a = refl
+none_at n (l ∷ ls) a = ap (λ b. cond b (Some l) (find (has_number n) ls)) a.0 ∙ none_at n ls a.1
+
 -- each is found by its number
 pub numbers_found : (m : ℕ) (ls : List PathLink) → Rises m ls → AllByRecursion (λ k. find (has_number k.link) ls ≡ Some k) ls
 numbers_found m [] r = tt
@@ -310,7 +315,7 @@ kept_without x (s ∷ ss) ls a = by (s.link == x.link) refl (kept_without x ss l
     by false e ih = (kept_other x s ls e a.0, ih)
 
 -- where only links that keep no credit are dropped
-kept_filter : (o : PathLink → Bool) (ls : List PathLink) (s : SendingLink) → AllByRecursion (λ k. o k ≡ false → keeps s k ≡ false) ls → is_kept ls s ≡ true → is_kept (filter o ls) s ≡ true
+pub kept_filter : (o : PathLink → Bool) (ls : List PathLink) (s : SendingLink) → AllByRecursion (λ k. o k ≡ false → keeps s k ≡ false) ls → is_kept ls s ≡ true → is_kept (filter o ls) s ≡ true
 kept_filter o [] s a e = e
 kept_filter o (l ∷ ls) s a e = by (o l) refl (kept_filter o ls s a.1) (or_true (keeps s l) (is_kept ls s) e)
   where

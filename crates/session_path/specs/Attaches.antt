@@ -9,7 +9,7 @@ use Rattle.session_path.specs.Events.{LinkFailed, DispositionCame, AttachSent, L
 use Rattle.session_path.specs.Events.{TransferSent, SettleSent, DisposeSent, DetachSent}
 use Rattle.session_path.specs.Events.{ConfirmWent, ReturnWent, DeliverSent, ContentSent}
 use Rattle.session_path.specs.Events.{ContentWhole, OkSent, LinesWent, LifeClosed, SessionLost}
-use Rattle.session_path.specs.Events.{UpLost, after_events}
+use Rattle.session_path.specs.Events.{SessionEnded, UpLost, after_events}
 
 -- an attach of the gateway under the name with this number
 abbrev pub asks_as : ℕ → PathEvent → ℕ
@@ -43,6 +43,7 @@ asks_as name (OkSent ok) = 0
 asks_as name LinesWent = 0
 asks_as name LifeClosed = 0
 asks_as name SessionLost = 0
+asks_as name SessionEnded = 0
 asks_as name UpLost = 0
 
 abbrev pub times_asked : ℕ → List PathEvent → ℕ
@@ -82,6 +83,7 @@ attaches_as name s (OkSent ok) = 0
 attaches_as name s LinesWent = 0
 attaches_as name s LifeClosed = 0
 attaches_as name s SessionLost = 0
+attaches_as name s SessionEnded = 0
 attaches_as name s UpLost = 0
 
 abbrev pub times_attached : ℕ → ℕ → List PathEvent → ℕ

@@ -22,7 +22,7 @@ use Rattle.consume_path.specs.declared.receiving.TransferFault.{TransferFault}
 use Rattle.session_path.specs.Links.{asked_by, free_number, linked_to, named}
 use Rattle.session_path.specs.Path.{PathState, answer_came, attach_came, attach_sent, began, closed}
 use Rattle.session_path.specs.Path.{confirm_sent, consumed, content_sent, content_whole}
-use Rattle.session_path.specs.Path.{deliver_sent, dispose_sent, end_lost, failed, sender_in}
+use Rattle.session_path.specs.Path.{deliver_sent, dispose_sent, end_lost, ended, failed, sender_in}
 use Rattle.session_path.specs.Path.{detach_came, detach_sent, flow_came, last_or, lines_told}
 use Rattle.session_path.specs.Path.{link_flow_sent, lost, number_of, ok_sent, opened, outcome_came}
 use Rattle.session_path.specs.Path.{return_sent, transfer_came, tag_for, receiver_in, taking}
@@ -95,8 +95,10 @@ pub data PathEvent : Type 0 where
   LinesWent : PathEvent
   -- the closing event of the life
   LifeClosed : PathEvent
-  -- the session, or the connection, is lost
+  -- the container ended the session, or is at fault on it
   SessionLost : PathEvent
+  -- the gateway's end of the session went, or the connection is lost
+  SessionEnded : PathEvent
   -- the upstream end is lost or was shut
   UpLost : PathEvent
 
@@ -133,6 +135,7 @@ after_event (OkSent ok) s = ok_sent s
 after_event LinesWent s = lines_told s
 after_event LifeClosed s = closed s
 after_event SessionLost s = lost s
+after_event SessionEnded s = ended s
 after_event UpLost s = end_lost s
 
 -- in the life with this number
@@ -180,6 +183,7 @@ publish_events s (OkSent ok) = []
 publish_events s LinesWent = LinesTold ∷ []
 publish_events s LifeClosed = []
 publish_events s SessionLost = LinkGone None false ∷ []
+publish_events s SessionEnded = LinkGone None false ∷ []
 publish_events s UpLost = LinkGone None false ∷ []
 
 abbrev pub publishes_of : ℕ → List PathEvent → List PublishEvent
@@ -311,6 +315,7 @@ delivery_events s (OkSent ok) = globals (first_of s.oks)
 delivery_events s LinesWent = on.LinesTold ∷ []
 delivery_events s LifeClosed = on.Closed ∷ []
 delivery_events s SessionLost = on.Closed ∷ []
+delivery_events s SessionEnded = on.Closed ∷ []
 delivery_events s UpLost = on.EndLost ∷ on.Closed ∷ []
 
 abbrev pub deliveries_of : ℕ → List PathEvent → List DeliveryEvent

@@ -13,7 +13,7 @@ use Rattle.session_path.specs.Events.{LinkFailed, DispositionCame, AttachSent, L
 use Rattle.session_path.specs.Events.{TransferSent, SettleSent, DisposeSent, DetachSent}
 use Rattle.session_path.specs.Events.{ConfirmWent, ReturnWent, DeliverSent, ContentSent}
 use Rattle.session_path.specs.Events.{ContentWhole, OkSent, LinesWent, LifeClosed, SessionLost}
-use Rattle.session_path.specs.Events.{UpLost, after_events}
+use Rattle.session_path.specs.Events.{SessionEnded, UpLost, after_events}
 
 -- it is the link with this number
 abbrev pub is_link : ℕ → Option PathLink → Bool
@@ -53,6 +53,7 @@ flows_by n s (OkSent ok) = 0
 flows_by n s LinesWent = 0
 flows_by n s LifeClosed = 0
 flows_by n s SessionLost = 0
+flows_by n s SessionEnded = 0
 flows_by n s UpLost = 0
 
 abbrev pub flows_on : ℕ → ℕ → List PathEvent → ℕ
@@ -80,7 +81,7 @@ echoes_on n (Some l) = if l.link == n then l.echoes else 0
 -- what the container's flows on a sending link n are owed, where so many went and so many were
 -- owed: one flow for each echo, and one for each drain (AMQP 1.0 2.7.4). A link that the container
 -- detached is owed its drains alone, until the gateway detaches it (2.6.6, 2.6.7); one that is no
--- more is owed no more than went
+-- more, since the gateway ended its session too, is owed no more than went
 abbrev pub causes_by : ℕ → PathState → ℕ → ℕ → PathEvent → ℕ
 causes_by n s flows causes (Began handle_max) = causes
 causes_by n s flows causes (Published address payload back) = causes
@@ -116,7 +117,8 @@ causes_by n s flows causes (ContentWhole tag) = causes
 causes_by n s flows causes (OkSent ok) = causes
 causes_by n s flows causes LinesWent = causes
 causes_by n s flows causes LifeClosed = causes
-causes_by n s flows causes SessionLost = flows
+causes_by n s flows causes SessionLost = causes
+causes_by n s flows causes SessionEnded = flows
 causes_by n s flows causes UpLost = flows
 
 abbrev pub causes_on : ℕ → ℕ → List PathEvent → ℕ

@@ -13,7 +13,7 @@ use Rattle.session_path.specs.Events.{LinkFailed, DispositionCame, AttachSent, L
 use Rattle.session_path.specs.Events.{TransferSent, SettleSent, DisposeSent, DetachSent}
 use Rattle.session_path.specs.Events.{ConfirmWent, ReturnWent, DeliverSent, ContentSent}
 use Rattle.session_path.specs.Events.{ContentWhole, OkSent, LinesWent, LifeClosed, SessionLost}
-use Rattle.session_path.specs.Events.{UpLost, after_events, publishes_of}
+use Rattle.session_path.specs.Events.{SessionEnded, UpLost, after_events, publishes_of}
 use Rattle.consume_path.specs.Deliveries.{DeliveryState}
 use Rattle.consume_path.specs.Links.{id_or}
 use Rattle.consume_path.specs.declared.delivery.Content.{Content}
@@ -80,6 +80,7 @@ owes s (OkSent ok) = []
 owes s LinesWent = []
 owes s LifeClosed = []
 owes s SessionLost = []
+owes s SessionEnded = []
 owes s UpLost = []
 
 abbrev pub answers : PathEvent → List PathOk
@@ -113,6 +114,7 @@ answers (OkSent ok) = ok ∷ []
 answers LinesWent = []
 answers LifeClosed = []
 answers SessionLost = []
+answers SessionEnded = []
 answers UpLost = []
 
 abbrev pub oks_owed : ℕ → List PathEvent → List PathOk
@@ -189,6 +191,7 @@ settles (OkSent ok) = []
 settles LinesWent = []
 settles LifeClosed = []
 settles SessionLost = []
+settles SessionEnded = []
 settles UpLost = []
 
 -- those that went, in order
@@ -201,8 +204,8 @@ abbrev pub is_outcome_of : ℕ → ℕ → Option ℕ → List PathEvent → Boo
 is_outcome_of life first last h =
     list_any (is_told first (last_or first last)) (open_after life (publishes_of life h))
 
--- those that the container's dispositions are owed, in their order; a lost session is owed no more
--- than what went
+-- those that the container's dispositions are owed, in their order; a session that the gateway
+-- ended is owed no more than what went
 abbrev pub owed_by : ℕ → List PathEvent → List Settling → PathEvent → List Settling
 owed_by life h list (Began handle_max) = list
 owed_by life h list (Published address payload back) = list
@@ -235,7 +238,8 @@ owed_by life h list (ContentWhole tag) = list
 owed_by life h list (OkSent ok) = list
 owed_by life h list LinesWent = list
 owed_by life h list LifeClosed = list
-owed_by life h list SessionLost = settles_sent h
+owed_by life h list SessionLost = list
+owed_by life h list SessionEnded = settles_sent h
 owed_by life h list UpLost = settles_sent h
 
 abbrev pub settles_owed : ℕ → List PathEvent → List Settling

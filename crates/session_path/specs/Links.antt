@@ -206,6 +206,16 @@ no_links = record { sending = []; links = []; handles = new_table 255 }
 abbrev pub limited : ℕ → LinksState → LinksState
 limited handle_max s = record s { handles = after_limit (min 255 handle_max) s.handles }
 
+-- no link is wanted any more
+abbrev pub is_wanted_at : List PathLink → SendingLink → Bool
+is_wanted_at links x = list_any (λ l. is_wanted l && has_number x.link l) links
+
+abbrev pub without_wanted : LinksState → LinksState
+without_wanted s = record s {
+  sending = filter (λ x. not (is_wanted_at s.links x)) s.sending;
+  links = filter (λ l. not (is_wanted l)) s.links;
+}
+
 -- no link is left
 abbrev pub all_lost : LinksState → LinksState
 all_lost s = record s { sending = []; links = [] }

@@ -42,6 +42,7 @@ use Rattle.session_path.specs.Links.{is_left, is_stage_failed, is_stage_whole, i
 use Rattle.session_path.specs.Links.{is_stage_open, is_wanting, limited, link_asked, link_detached}
 use Rattle.session_path.specs.Links.{link_failed, link_flowed, linked_to, lowest, named, no_links}
 use Rattle.session_path.specs.Links.{parted, told_on, with_receiver, without_receivers}
+use Rattle.session_path.specs.Links.{without_wanted}
 use Rattle.session_path.specs.declared.path.AttachHeard.{AttachHeard}
 use Rattle.session_path.specs.declared.path.Awaited.{Awaited}
 use Rattle.session_path.specs.declared.path.DeliverDue.{DeliverDue}
@@ -75,6 +76,8 @@ pub record PathState : Type 0 where
   pub names : List (List ℕ)
   -- the queue that was declared last; empty where none was
   pub queue : List ℕ
+  -- the session is lost: what it transfers is passed over
+  pub lost : Bool
 
 abbrev pub with_deliveries : deliveries.DeliveryEvent → PathState → PathState
 with_deliveries x s = record s { deliveries = deliveries.after_event x s.deliveries }
@@ -95,6 +98,7 @@ opened life = record {
   oks = [];
   names = [];
   queue = [];
+  lost = false;
 }
 
 -- the container's begin came, with the greatest handle that it takes (AMQP 1.0 2.7.2)
@@ -111,21 +115,24 @@ closed s = record s {
   writing = None;
 }
 
--- its session, or the connection, is lost: that is its closing event, if none came before; each
--- publish without an outcome is lost, and no link is left
-abbrev pub unlinked : PathState → PathState
-unlinked s = record s {
-  publishes = after_event (LinkGone None false) s.publishes;
-  links = all_lost s.links;
-  settles = [];
-}
+-- nothing crosses it any more: each publish without an outcome is lost, and what is transferred is
+-- passed over
+abbrev pub cut_off : PathState → PathState
+cut_off s = record s { publishes = after_event (LinkGone None false) s.publishes; lost = true }
 
+-- the container ended its session, or is at fault on it: that is its closing event, if none came
+-- before. No link is asked for any more, and no transfer of the container counts; what else is due
+-- on its links goes until the gateway's end (AMQP 1.0 2.5.5, 2.5.6)
 abbrev pub lost : PathState → PathState
-lost s = unlinked (closed s)
+lost s = record (cut_off (closed s)) { links = without_wanted (closed s).links }
+
+-- the gateway's end went, or the connection is lost: no link is left
+abbrev pub ended : PathState → PathState
+ended s = record (cut_off (closed s)) { links = all_lost (closed s).links; settles = [] }
 
 -- the upstream end is lost or was shut: no disposition goes any more either
 abbrev pub end_lost : PathState → PathState
-end_lost s = with_deliveries EndLost (lost s)
+end_lost s = with_deliveries EndLost (ended s)
 
 -- ---- requests of the client
 
@@ -368,13 +375,14 @@ abbrev pub flow_came : ℕ → Option ℕ → ℕ → Bool → Bool → PathStat
 flow_came peer count credit drain echo s =
     flowed_by (receiver_in (named peer s.links)) peer count credit drain echo s
 
--- a transfer counts on a receiving link that neither end detached; elsewhere it is passed over
+-- a transfer counts on a receiving link that neither end detached, unless the session is lost;
+-- elsewhere it is passed over
 abbrev pub taking_in : Option PathLink → Option PathLink
 taking_in None = None
 taking_in (Some l) = if l.receives && is_stage_whole l.stage then Some l else None
 
 abbrev pub taking : ℕ → PathState → Option PathLink
-taking peer s = taking_in (named peer s.links)
+taking peer s = if s.lost then None else taking_in (named peer s.links)
 
 abbrev pub fault_on : Option PathLink → Part → ℕ → DeliveryState → Option TransferFault
 fault_on None part size d = None
@@ -528,14 +536,16 @@ settle_sent s = record s { settles = drop 1 s.settles }
 
 -- a link is given up where its handle is wanting: that with the lowest handle of the sending ones
 -- on which no publish waits, is begun or lacks an outcome, and of those for gets on which none
--- waits or has its answer still to go, and each delivery had its disposition
+-- waits or has its answer still to go, and each delivery had its disposition. No answer goes to a
+-- closed life
 abbrev pub is_empty_of : ℕ → PathOk → Bool
 is_empty_of link (ok.Empty k) = k == link
 is_empty_of link x = false
 
 abbrev pub is_resting : DeliveryState → List PathOk → ℕ → Bool
 is_resting d oks link =
-    is_at_rest link d && not (holds link d.list || list_any (is_empty_of link) oks)
+    is_at_rest link d
+    && not (holds link d.list || (not d.closed && list_any (is_empty_of link) oks))
 
 abbrev pub is_idle : List Publish → DeliveryState → List PathOk → PathLink → Bool
 is_idle list d oks l =

@@ -33,7 +33,8 @@ pub fn handle(stage: Stage) -> u32
     }
 }
 
-fn is_link_wanted(l: &PathLink) -> bool
+/// Its attach is due.
+pub fn is_link_wanted(l: &PathLink) -> bool
     ensures { result ≡ is_wanted l.now }
 {
     matches!(l.stage, Stage::Wanted)
@@ -246,6 +247,13 @@ pub fn drop_left(links: &mut Vec<PathLink>, handle: u32)
     ensures { links.new.items ≡ gone_from handle links.old.items }
 {
     links.retain(|l| !is_link_left_at(l, handle));
+}
+
+/// Leaves out the links that are wanted.
+pub fn drop_all_wanted(links: &mut Vec<PathLink>)
+    ensures { links.new.items ≡ filter (λ l. not (is_wanted l)) links.old.items }
+{
+    links.retain(|l| !is_link_wanted(l));
 }
 
 /// Leaves out the receiving links that are wanted.

@@ -2,7 +2,7 @@
 
 ghost use Rattle.std.specs.Prelude.{◌≡◌, ◌≤◌, ◌<◌, ◌+◌, ◌^◌, ◌++◌, ◌∷◌, [], ◌==◌, if◌then◌else◌};
 ghost use Rattle.std.specs.Prelude.{length, find, filter, map, option_copied, Some, None, OnOk};
-ghost use Rattle.std.specs.Prelude.{OnErr, IfOk, IfSome, true, false, ◌||◌};
+ghost use Rattle.std.specs.Prelude.{OnErr, IfOk, IfSome, true, false, not, ◌||◌};
 ghost use Rattle.publish_path.specs.Links.{address_of, asked_link, link_of, link_to, flowed};
 ghost use Rattle.publish_path.specs.Links.{without};
 ghost use Rattle.publish_path.specs.Offers.{held_bytes, held_count, next_frame_of, rest_of};
@@ -17,7 +17,8 @@ ghost use Rattle.session_path.specs.Due.{attach_of, due_in, flow_due};
 ghost use Rattle.session_path.specs.Links.{credit_in};
 ghost use Rattle.session_path.specs.Links.{handle_at, attached_if, drained_if, free_number};
 ghost use Rattle.session_path.specs.Links.{linked_to, with_link_to, with_wanted, told_on, no_links};
-ghost use Rattle.session_path.specs.Links.{with_receiver, without_receivers, limited, all_lost};
+ghost use Rattle.session_path.specs.Links.{with_receiver, without_receivers, without_wanted};
+ghost use Rattle.session_path.specs.Links.{all_lost, is_wanted_at, limited};
 ghost use Rattle.session_path.specs.Links.{link_asked, attach_fault, fault_unasked, asked_by, attached, is_wanted};
 ghost use Rattle.session_path.specs.Links.{has_number, is_left, is_stage_open, gone_on};
 ghost use Rattle.session_path.specs.Links.{is_stage_failed};
@@ -26,10 +27,11 @@ ghost use Rattle.session_path.specs.Links.{is_wanting, lower_if, lowest, given_o
 ghost use Rattle.session_path.specs.Links.{LinksState};
 
 use crate::links::{
-    answered, asked, count_of, count_parting, count_wanted, credit_of, detach_link, drop_left,
-    drop_wanted_receiver, drop_wanted_receivers, failed, first_asked_as, first_at, first_numbered,
-    first_to_part, first_wanted, given, handle, is_link_given, is_link_left, is_link_lower,
-    is_link_open, is_link_taking, lowest_free, put_link, told, told_once, wanted,
+    answered, asked, count_of, count_parting, count_wanted, credit_of, detach_link,
+    drop_all_wanted, drop_left, drop_wanted_receiver, drop_wanted_receivers, failed,
+    first_asked_as, first_at, first_numbered, first_to_part, first_wanted, given, handle,
+    is_link_given, is_link_left, is_link_lower, is_link_open, is_link_taking, is_link_wanted,
+    lowest_free, put_link, told, told_once, wanted,
 };
 use crate::path::{AttachDue, AttachFault, AttachHeard, FlowDue, PathLink, PathOk};
 use consume_path::{Deliveries, TransferFault};
@@ -190,6 +192,14 @@ impl PathLinks {
         ensures { self.new ≡ without_receivers self.old }
     {
         drop_wanted_receivers(&mut self.links);
+    }
+
+    /// No link is wanted any more.
+    pub fn drop_wanted(&mut self)
+        ensures { self.new ≡ without_wanted self.old }
+    {
+        drop_wanted_senders(&mut self.sending, self.links.as_slice());
+        drop_all_wanted(&mut self.links);
     }
 
     /// The first attach that is due was sent, under this name. Nothing changes where none is.
@@ -555,11 +565,13 @@ fn owes_empty(oks: &VecDeque<PathOk>, link: u32) -> bool
     oks.iter().any(|ok| is_empty_of(ok, link))
 }
 
-/// No get waits on it or is still to be answered, and each delivery had its disposition.
+/// No get waits on it or is still to be answered, and each delivery had its disposition. A life
+/// that is closed answers none.
 fn is_resting(deliveries: &Deliveries, oks: &VecDeque<PathOk>, link: u32) -> bool
     ensures { result ≡ is_resting deliveries.now oks.now.items link }
 {
-    deliveries.is_at_rest(link) && !(deliveries.holds(link) || owes_empty(oks, link))
+    let is_owed = !deliveries.is_closed() && owes_empty(oks, link);
+    deliveries.is_at_rest(link) && !(deliveries.holds(link) || is_owed)
 }
 
 /// No publish waits on it, is begun, or lacks an outcome, and no get is under way.
@@ -634,6 +646,18 @@ fn remove_one(sending: &mut SendLinks, link: u32)
 {
     if sending.get(link).is_some() {
         sending.remove(link);
+    }
+}
+
+/// Leaves out the credit of the links that are wanted.
+#[tactic(auto, using(crate::proofs::Unwanted::left_one, crate::proofs::Unwanted::left_other))]
+fn drop_wanted_senders(sending: &mut SendLinks, links: &[PathLink])
+    ensures { sending.new ≡ filter (λ x. not (is_wanted_at links.now x)) sending.old }
+{
+    for l in links {
+        if is_link_wanted(l) {
+            remove_one(sending, l.link);
+        }
     }
 }
 

@@ -8,7 +8,8 @@ ghost use Rattle.publish_path.specs.Offers.{next_frame_of, rest_of};
 ghost use Rattle.publish_path.specs.Payloads.{joined};
 ghost use Rattle.publish_path.specs.Publishes.{is_open};
 ghost use Rattle.session_path.specs.Links.{handle_at, attach_fault, fault_unasked, named};
-ghost use Rattle.session_path.specs.Path.{PathState, opened, began, closed, lost, end_lost, owed};
+ghost use Rattle.session_path.specs.Path.{PathState, opened, began, closed, cut_off, lost, ended};
+ghost use Rattle.session_path.specs.Path.{end_lost, owed};
 ghost use Rattle.session_path.specs.Path.{published, selected, attach_came, flow_came, detach_came};
 ghost use Rattle.session_path.specs.Path.{outcome_came, last_or, attach_sent, link_flow_sent};
 ghost use Rattle.session_path.specs.Path.{transfer_sent, settle_sent, detach_sent, confirm_sent};
@@ -63,6 +64,8 @@ pub struct SessionPath {
     names: VecDeque<ByteText>,
     /// The queue that was declared last; empty where none was.
     queue: ByteText,
+    /// The session is lost: what it transfers is passed over.
+    lost: bool,
     /// How many publishes were taken up.
     taken: u64,
 }
@@ -85,6 +88,7 @@ impl Model for SessionPath {
       oks = a.oks.items;
       names = a.names.items;
       queue = a.queue;
+      lost = a.lost;
     } };
 
     ghost invariant = { λ a. a.taken ≡ a.publishes.numbers };
@@ -216,6 +220,7 @@ impl SessionPath {
             oks: VecDeque::new(alloc),
             names: VecDeque::new(alloc),
             queue: ByteText::empty(alloc),
+            lost: false,
             taken: 0,
         })
     }
@@ -238,12 +243,29 @@ impl SessionPath {
         self.writing = None;
     }
 
-    /// The session, or the connection, is lost. That closes the life, where it isn't yet.
-    pub fn lost(&mut self)
-        ensures { self.new ≡ lost self.old }
+    /// Nothing crosses the session any more. That closes the life, where it isn't yet.
+    fn cut_off(&mut self)
+        ensures { self.new ≡ cut_off (closed self.old) }
     {
         self.closed();
         self.publishes.lost_all();
+        self.lost = true;
+    }
+
+    /// The container ended the session, or is at fault on it. What is due on its links goes until
+    /// the gateway's end.
+    pub fn lost(&mut self)
+        ensures { self.new ≡ lost self.old }
+    {
+        self.cut_off();
+        self.links.drop_wanted();
+    }
+
+    /// The gateway's end of the session went, or the connection is lost: no link is left.
+    pub fn ended(&mut self)
+        ensures { self.new ≡ ended self.old }
+    {
+        self.cut_off();
         self.links.lose_all();
         self.settles.clear();
     }
@@ -252,7 +274,7 @@ impl SessionPath {
     pub fn end_lost(&mut self)
         ensures { self.new ≡ end_lost self.old }
     {
-        self.lost();
+        self.ended();
         self.deliveries.lost_all();
     }
 

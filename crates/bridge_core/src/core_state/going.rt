@@ -13,7 +13,7 @@ ghost use Rattle.bridge_core.specs.PathChanges.{HasWindow, MayGive, MayGo, MayGo
 use super::Core;
 use crate::replies::without;
 use crate::sessions::flow_sent;
-use gate_model::{Life, Outgoing, Reply, SessionState, SessionUnit, UpUnit};
+use gate_model::{Outgoing, Reply, SessionState, SessionUnit, UpUnit};
 
 /// What a unit of a session's links makes of the windows of the session.
 fn session_given(session: SessionState, unit: SessionUnit) -> SessionState
@@ -60,36 +60,15 @@ impl Core {
             } }
     {
         match unit {
-            Reply::ChannelOpenOk(channel) => {
-                let life = Life {
-                    open_ok: false,
-                    ..self.lives.at(channel)
-                };
-                self.lives.set(channel, life);
-            }
+            Reply::ChannelOpenOk(channel) => self.lives.open_ok_sent(channel),
             Reply::OnChannel(channel, unit) => self.paths.tell(channel, unit),
             Reply::ChannelCloseOk(channel) => {
-                let life = Life {
-                    close_ok: false,
-                    ..self.lives.at(channel)
-                };
-                self.lives.set(channel, life);
+                self.lives.close_ok_sent(channel);
                 self.conn.closed(channel);
             }
-            Reply::CrossedOk(channel) => {
-                let life = Life {
-                    crossed_ok: false,
-                    ..self.lives.at(channel)
-                };
-                self.lives.set(channel, life);
-            }
+            Reply::CrossedOk(channel) => self.lives.crossed_ok_sent(channel),
             Reply::ChannelClose(channel, _) => {
-                let life = Life {
-                    close: None,
-                    told: true,
-                    ..self.lives.at(channel)
-                };
-                self.lives.set(channel, life);
+                self.lives.close_sent(channel);
                 self.conn.told(channel);
             }
             _ => {}
@@ -107,27 +86,16 @@ impl Core {
             } }
     {
         match unit {
-            UpUnit::Begin(channel) => {
-                let life = self.lives.at(channel);
-                self.lives.set(
-                    channel,
-                    Life {
-                        begin: false,
-                        ..life
-                    },
-                );
-            }
+            UpUnit::Begin(channel) => self.lives.begin_sent(channel),
             UpUnit::Flow(channel, _, _) => {
-                let life = self.lives.at(channel);
-                let session = flow_sent(life.session);
-                self.lives.set(channel, Life { session, ..life });
+                let session = flow_sent(self.lives.at(channel).session);
+                self.lives.set_session(channel, session);
             }
             UpUnit::End(channel, _) => {
-                let life = self.lives.at(channel);
-                self.lives.set(channel, Life { why: None, ..life });
+                self.lives.end_sent(channel);
                 self.paths.lines_told();
                 if !self.conn.is_open(channel) {
-                    self.paths.lose(channel);
+                    self.paths.end(channel);
                 }
             }
             UpUnit::OnSession(channel, unit) => self.give_link(channel, unit),
@@ -146,9 +114,8 @@ impl Core {
               attached = attached_by (up.OnSession channel unit) self.old.attached;
             } }
     {
-        let life = self.lives.at(channel);
-        let session = session_given(life.session, unit);
-        self.lives.set(channel, Life { session, ..life });
+        let session = session_given(self.lives.at(channel).session, unit);
+        self.lives.set_session(channel, session);
         self.paths.give(channel, unit);
         self.attached = attached_with(self.attached, unit);
     }

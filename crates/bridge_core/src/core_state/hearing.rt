@@ -27,14 +27,13 @@ ghost use Rattle.bridge_core.specs.LinkFaults.{ended_by, ended_unless};
 
 use super::Core;
 use crate::contents::image_of;
-use crate::lives::old_life;
+use crate::lives::{begun_life, failed_life};
 use crate::path_changes::{LinkFault, link_number, part_of, path_change};
 use crate::paths::PathChange;
 use crate::replies::{reason_of, refusal_on};
 use crate::sessions::{carried_by, has_room};
 use close_translate::{INTERNAL_ERROR, NOT_ALLOWED, PRECONDITION_FAILED, Scope, code_of};
 use consume_path::TransferFault;
-use gate_model::Life;
 use gate_outside::End;
 use machine_10::{Unit10, Want10, connection_laws};
 use performatives_10::{Attach, Condition, Error10, Perf, Transfer};
@@ -93,18 +92,9 @@ impl Core {
     {
         if self.conn.is_open(channel) {
             self.conn.closing(Scope::Channel, channel);
-            let life = self.lives.at(channel);
-            self.lives.set(
-                channel,
-                Life {
-                    over: true,
-                    closed_at: Some(self.moment),
-                    by_peer: true,
-                    close: Some(reason_of(refusal_on(channel, code), None)),
-                    why,
-                    ..old_life(life)
-                },
-            );
+            let reason = reason_of(refusal_on(channel, code), None);
+            let life = failed_life(self.lives.at(channel), true, self.moment, reason, why);
+            self.lives.set(channel, life);
             self.paths.close(channel);
         }
     }
@@ -114,15 +104,8 @@ impl Core {
         ensures step { self.new ≡ begun_session channel self.old }
         ensures kept { KeepsGoing self.old self.new }
     {
-        let life = self.lives.at(channel);
-        self.lives.set(
-            channel,
-            Life {
-                waits: false,
-                open_ok: life.open_ok || life.waits,
-                ..life
-            },
-        );
+        let life = begun_life(self.lives.at(channel));
+        self.lives.set(channel, life);
     }
 
     /// What a performative makes of the windows of the session of a channel.
@@ -132,9 +115,8 @@ impl Core {
         ensures step { self.new ≡ windowed channel (parts_of perf.now) self.old }
         ensures kept { KeepsGoing self.old self.new }
     {
-        let life = self.lives.at(channel);
-        let session = carried_by(life.session, perf);
-        self.lives.set(channel, Life { session, ..life });
+        let session = carried_by(self.lives.at(channel).session, perf);
+        self.lives.set_session(channel, session);
     }
 
     /// What is wrong with a performative that names a link, if something is.

@@ -1,14 +1,16 @@
 //! The units of the client that are taken up.
 
 ghost use Rattle.std.specs.Prelude.{◌≡◌, ◌<◌, ◌+◌, ◌-◌, ◌^◌, true, false, OnOk, OnErr, IfOk};
+ghost use Rattle.std.specs.Prelude.{◌&&◌, ◌||◌, not};
 ghost use Rattle.std.specs.Prelude.{None, box_value, is_some, Err, IfErr, Ok};
 ghost use Rattle.machine_091.specs.declared.unit.Want91.TheVariants as want;
 ghost use Rattle.session_path.specs.Path as session;
 ghost use Rattle.session_path.specs.Path.{published};
-ghost use Rattle.gate_model.specs.Lives.{closed_life, freed_life, life_at, lives_by, with_life};
+ghost use Rattle.gate_model.specs.Lives.{freed_life, life_at, lives_by, with_life};
 ghost use Rattle.gate_model.specs.Paths.{set_path, with_path};
-ghost use Rattle.gate_model.specs.State.{OutOfMemory, came, lives_opened, met, next_unit, path_by};
-ghost use Rattle.gate_model.specs.State.{paths_by, step};
+ghost use Rattle.gate_model.specs.State.{OutOfMemory, came, condition_by, is_close_want};
+ghost use Rattle.gate_model.specs.State.{keep_login, lives_opened, met, next_unit, path_by, paths_by, step};
+ghost use Rattle.gate_model.specs.State.{with_want};
 ghost use Rattle.gate_model.specs.Upstream.{closing_with};
 ghost use Rattle.bridge_core.specs.Going.{KeepsGoing};
 ghost use Rattle.bridge_core.specs.Logins.{IsLoginWant};
@@ -22,17 +24,17 @@ ghost use Rattle.session_path.specs.Path.{PathState};
 ghost use Rattle.std.specs.Prelude.{IfSome};
 
 use super::{Core, is_foreign};
-use crate::lives::old_life;
+use crate::lives::{asked_life, closed_life, failed_life, freed_life};
 use crate::moments::{closes_at, fed_by};
 use crate::paths::{Consume, PathChange};
 use crate::replies::reason_of;
 use crate::requests::{Met, meet};
 use close_translate::{Scope, condition_of};
 use consume_path::Settle;
-use gate_model::Life;
 use machine_091::{Refusal, Unit91, Want91, connection_laws};
 use methods_091::Method91;
 use open_items::Frames;
+use performatives_10::Condition;
 use property_map::Told;
 use publish_path::Payload;
 use session_path::{PathOk, SessionPath};
@@ -56,36 +58,6 @@ fn both<A: Drop, B, E>(first: A, second: Result<B, E>) -> Result<(A, B), E>
     }
 }
 
-/// What is due on a channel that its client closes.
-fn closed_life(life: Life, moment: u64) -> Life
-    ensures { result ≡ closed_life moment life }
-{
-    let closed_at = life.closed_at.or(Some(moment));
-    let by_peer = life.by_peer;
-    let told = life.told;
-    Life {
-        awaits_end: !life.over,
-        over: true,
-        closed_at,
-        by_peer,
-        close_ok: true,
-        told,
-        ..old_life(life)
-    }
-}
-
-/// What is due on one whose client answered the gateway's channel.close.
-fn freed_life(life: Life) -> Life
-    ensures { result ≡ freed_life life }
-{
-    let crossed_ok = life.crossed_ok || life.close_ok;
-    Life {
-        over: true,
-        crossed_ok,
-        ..old_life(life)
-    }
-}
-
 /// What a reject or a nack makes of deliveries.
 fn settle_by(requeue: bool) -> Settle
     ensures { result ≡ settle_by requeue }
@@ -94,6 +66,19 @@ fn settle_by(requeue: bool) -> Settle
         Settle::Released
     } else {
         Settle::Rejected
+    }
+}
+
+/// The error of the gateway's close to the container, where what a unit wants is the closing event.
+fn condition_by(want: &Want91) -> Option<Condition>
+    ensures { result ≡ condition_by want.now }
+{
+    match want {
+        Want91::Refuse(refusal) => match refusal.scope {
+            Scope::Connection => Some(condition_of(refusal.code)),
+            Scope::Channel => None,
+        },
+        _ => None,
     }
 }
 
@@ -297,17 +282,11 @@ impl Core {
         } }
     {
         let life = self.lives.at(channel);
-        let moment = self.moment;
         match method {
-            Method91::ChannelOpen => self.lives.set(
-                channel,
-                Life {
-                    waits: true,
-                    begin: true,
-                    ..old_life(life)
-                },
-            ),
-            Method91::ChannelClose { .. } => self.lives.set(channel, closed_life(life, moment)),
+            Method91::ChannelOpen => self.lives.set(channel, asked_life(life)),
+            Method91::ChannelClose { .. } => {
+                self.lives.set(channel, closed_life(life, self.moment));
+            }
             _ => {}
         }
     }
@@ -323,37 +302,63 @@ impl Core {
     }
 
     /// A refusal closes the connection or a channel, and that is told, of a publish with this.
-    fn meet_refusal(&mut self, closing: bool, told: Option<Told>, refusal: Refusal)
-        ensures { self.new ≡ record (met closing told (want.Refuse refusal) self.old) {
-          paths = self.old.paths;
-          opened = self.old.opened;
+    fn meet_refusal(&mut self, told: Option<Told>, refusal: Refusal)
+        ensures { self.new ≡ record self.old {
+          pending = with_want (want.Refuse refusal) self.old.pending;
+          lives = lives_by self.old.moment told (want.Refuse refusal) self.old.lives;
         } }
     {
-        let condition = condition_of(refusal.code);
         match refusal.scope {
-            Scope::Connection => {
-                self.pending.close = Some(refusal);
-                self.up.set_condition(closing, Some(condition));
-            }
+            Scope::Connection => self.pending.close = Some(refusal),
             Scope::Channel => {
-                let life = self.lives.at(refusal.channel);
-                self.lives.set(
-                    refusal.channel,
-                    Life {
-                        over: true,
-                        closed_at: Some(self.moment),
-                        close: Some(reason_of(refusal, told)),
-                        why: Some(condition),
-                        ..old_life(life)
-                    },
-                );
-                self.up.set_condition(closing, None);
+                let channel = refusal.channel;
+                let reason = reason_of(refusal, told);
+                let why = Some(condition_of(refusal.code));
+                let life = failed_life(self.lives.at(channel), false, self.moment, reason, why);
+                self.lives.set(channel, life);
             }
         }
     }
 
-    /// What a unit of the client wants is met, and this is told of a publish that is refused.
-    /// `closing` says that the connection closed before it.
+    /// What a unit of the client wants is met, but for the error of the gateway's close to the
+    /// container, and this is told of a publish that is refused. `closing` says that the connection
+    /// closed before it.
+    fn meet_want(&mut self, alloc: Global, closing: bool, told: Option<Told>, want: Want91)
+        requires login { IsLoginWant want }
+        ensures { self.new ≡ record self.old {
+          pending = with_want want self.old.pending;
+          lives = lives_by self.old.moment told want self.old.lives;
+          up = keep_login want self.old.up;
+          client_closed = self.old.client_closed || (not closing && is_close_want want);
+        } }
+    {
+        match want {
+            Want91::Nothing | Want91::Tuned | Want91::OpenUp | Want91::CloseOk => {}
+            Want91::Start => self.pending.start = true,
+            Want91::Login(mechanism, response) => {
+                self.pending.tune = true;
+                self.up.log_in(alloc, mechanism, response);
+            }
+            Want91::Method(channel, method) => {
+                self.meet_method(channel, &method);
+                release_method(method);
+            }
+            Want91::ChannelCloseOk(channel) => self.free(channel),
+            Want91::Close => {
+                self.pending.close_ok = true;
+                self.pending.close = None;
+                self.client_closed |= !closing;
+            }
+            // a publish is met apart
+            Want91::Publish(_, method, content) => {
+                drop(content);
+                release_method(method);
+            }
+            Want91::Refuse(refusal) => self.meet_refusal(told, refusal),
+        }
+    }
+
+    /// What a unit of the client wants is met, all of it.
     fn meet(&mut self, alloc: Global, closing: bool, told: Option<Told>, want: Want91)
         requires login { IsLoginWant want }
         ensures { self.new ≡ record (met closing told want self.old) {
@@ -361,42 +366,9 @@ impl Core {
           opened = self.old.opened;
         } }
     {
-        match want {
-            Want91::Nothing | Want91::Tuned | Want91::OpenUp | Want91::CloseOk => {
-                self.up.set_condition(closing, None);
-            }
-            Want91::Start => {
-                self.pending.start = true;
-                self.up.set_condition(closing, None);
-            }
-            Want91::Login(mechanism, response) => {
-                self.pending.tune = true;
-                self.up.log_in(alloc, mechanism, response);
-                self.up.set_condition(closing, None);
-            }
-            Want91::Method(channel, method) => {
-                self.meet_method(channel, &method);
-                release_method(method);
-                self.up.set_condition(closing, None);
-            }
-            Want91::ChannelCloseOk(channel) => {
-                self.free(channel);
-                self.up.set_condition(closing, None);
-            }
-            Want91::Close => {
-                self.pending.close_ok = true;
-                self.pending.close = None;
-                self.client_closed |= !closing;
-                self.up.set_condition(closing, None);
-            }
-            // a publish is met apart
-            Want91::Publish(_, method, content) => {
-                drop(content);
-                release_method(method);
-                self.up.set_condition(closing, None);
-            }
-            Want91::Refuse(refusal) => self.meet_refusal(closing, told, refusal),
-        }
+        let condition = condition_by(&want);
+        self.meet_want(alloc, closing, told, want);
+        self.up.set_condition(closing, condition);
     }
 
     /// A publish was taken up. Without memory for it all is as it was.

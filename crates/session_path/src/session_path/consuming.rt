@@ -372,6 +372,9 @@ impl SessionPath {
     fn taking(&self, peer: u32) -> Option<PathLink>
         ensures { result ≡ taking peer self.now }
     {
+        if self.lost {
+            return None;
+        }
         let l = self.links.named(peer)?;
         if l.receives && is_stage_whole(l.stage) {
             Some(l)

@@ -1,4 +1,4 @@
-use Rattle.std.proofs.Common.{◌≡◌, ◌∙◌, ◌<◌, arith, length, sym}
+use Rattle.std.proofs.Common.{◌∙◌, ◌<◌, arith, length, sym}
 use Rattle.bridge_core.specs.Rows.{units_of}
 use Rattle.bridge_core.proofs.ChannelRows.{order_found, order_passed}
 use Rattle.bridge_core.proofs.core_state.Core.next_client.Goals as goal

@@ -4,7 +4,6 @@ use Rattle.gate_model.specs.declared.life.Life.{Life}
 use Rattle.gate_model.specs.Lives.{no_lives}
 use Rattle.gate_model.specs.Paths.{no_paths}
 use Rattle.gate_model.specs.State.{State}
-use Rattle.machine_10.specs.declared.state.Upstream.{Upstream}
 use Rattle.bridge_core.specs.ChannelRows.{AreFreeFrom}
 use Rattle.bridge_core.proofs.ChannelRows.{row_beyond, up_row_beyond}
 use Rattle.bridge_core.proofs.core_state.Core.top.Goals as goal

@@ -1,4 +1,3 @@
-use Rattle.session_path.specs.Path.{PathState}
 use Rattle.bridge_core.proofs.Changes.{unanswered, unchanged}
 use Rattle.bridge_core.proofs.core_state.taking.change_by.Goals as goal
 
