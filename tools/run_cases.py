@@ -33,7 +33,7 @@ from cases.told_bytes import NoCase
 TOOLS = Path(__file__).resolve().parent
 CASES = TOOLS / "cases"
 BUILT = TOOLS.parent / "crates/tests_gate/out/tests_gate"
-PARTS = ("amqp_10", "amqp_091", "paths", "turns", "gateway")
+PARTS = ("amqp_10", "amqp_091", "paths", "turns", "gateway", "broken")
 SECONDS = 600
 
 
