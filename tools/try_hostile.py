@@ -37,6 +37,7 @@ import time
 
 from wire import ATTACH, BEGIN, CLIENT, CLOSE, DETACH, DISPOSITION, END, FLOW, HEADER_091, HEADER_10, HEADER_SASL, INIT, OPEN, TRANSFER, UP
 from wire import Bad, Stream, check, frame_10, method_of, plain
+from wire import described, frame, frame10, long, method, short, symbol, ushort
 
 MOST = {CLIENT: 131_072, UP: 65_536}
 LINE = re.compile(r"pair (\d+) (closed|life \d+ publish \d+ (lost|unknown)|life \d+ delivery \d+ (left|lost))")
@@ -45,22 +46,6 @@ ROUND, LAST = 2.0, 15.0
 
 
 # ---- units of both standards
-
-
-def frame(kind, channel, payload):
-    return struct.pack(">BHI", kind, channel, len(payload)) + payload + b"\xce"
-
-
-def method(channel, class_id, method_id, arguments=b""):
-    return frame(1, channel, struct.pack(">HH", class_id, method_id) + arguments)
-
-
-def short(text):
-    return bytes([len(text)]) + text
-
-
-def long(text):
-    return struct.pack(">I", len(text)) + text
 
 
 def publish(rng, channel):
@@ -135,35 +120,6 @@ def wild(rng, tags):
             lambda: CLOSE_OK,
         )
     )()
-
-
-def typed(value):
-    """A value of AMQP 1.0 in some encoding: None, a boolean, a number of 32 bits, a tag, a string, or what is encoded already."""
-    if isinstance(value, tuple):
-        return value[0]
-    if value is None or isinstance(value, bool):
-        return {None: b"\x40", True: b"\x41", False: b"\x42"}[value]
-    if isinstance(value, int):
-        return b"\x43" if value == 0 else b"\x52" + bytes([value]) if value < 256 else b"\x70" + struct.pack(">I", value % 2**32)
-    return (b"\xa0" if isinstance(value, bytearray) else b"\xa1") + short(bytes(value))
-
-
-def described(code, *fields):
-    body = b"".join(map(typed, fields))
-    return (b"\0\x53" + bytes([code]) + b"\xd0" + struct.pack(">II", len(body) + 4, len(fields)) + body,)
-
-
-def frame10(channel, code, *fields, payload=b"", kind=0):
-    body = described(code, *fields)[0] + payload
-    return struct.pack(">IBBH", len(body) + 8, 2, kind, channel) + body
-
-
-def symbol(text):
-    return (b"\xa3" + short(text),)
-
-
-def ushort(number):
-    return (b"\x60" + struct.pack(">H", number),)
 
 
 def error(rng):

@@ -2,7 +2,7 @@
 
 `take_unit` takes the first whole unit of a stream: a protocol header or a frame. `Frame091` and `Frame10` are frames by their parts.
 `check` says what is wrong with a unit that the gateway wrote to a peer, by the standards' tables (AMQP 0-9-1 1.4 to 1.8; AMQP 1.0 1.6,
-2.7, 5.3.3). Scripts that look at what comes out of the gateway share it; it knows nothing of theirs.
+2.7, 5.3.3). Behind it stand functions that write units. Scripts that talk to the gateway share all this; it knows nothing of theirs.
 """
 
 import struct
@@ -259,3 +259,51 @@ def check(end, unit, most):
         raise Bad("a heartbeat on a channel, or with bytes")
     elif frame.kind == CONTENT and frame.payload[:4] != b"\0\x3C\0\0":
         raise Bad("a content header of another class")
+
+
+# ---- writing
+
+
+def frame(kind, channel, payload):
+    return struct.pack(">BHI", kind, channel, len(payload)) + payload + b"\xce"
+
+
+def method(channel, class_id, method_id, arguments=b""):
+    return frame(1, channel, struct.pack(">HH", class_id, method_id) + arguments)
+
+
+def short(text):
+    return bytes([len(text)]) + text
+
+
+def long(text):
+    return struct.pack(">I", len(text)) + text
+
+
+def typed(value):
+    """A value of AMQP 1.0 in some encoding: None, a boolean, a number of 32 bits, a tag, a string, or what is encoded already."""
+    if isinstance(value, tuple):
+        return value[0]
+    if value is None or isinstance(value, bool):
+        return {None: b"\x40", True: b"\x41", False: b"\x42"}[value]
+    if isinstance(value, int):
+        return b"\x43" if value == 0 else b"\x52" + bytes([value]) if value < 256 else b"\x70" + struct.pack(">I", value % 2**32)
+    return (b"\xa0" if isinstance(value, bytearray) else b"\xa1") + short(bytes(value))
+
+
+def described(code, *fields):
+    body = b"".join(map(typed, fields))
+    return (b"\0\x53" + bytes([code]) + b"\xd0" + struct.pack(">II", len(body) + 4, len(fields)) + body,)
+
+
+def frame10(channel, code, *fields, payload=b"", kind=0):
+    body = described(code, *fields)[0] + payload
+    return struct.pack(">IBBH", len(body) + 8, 2, kind, channel) + body
+
+
+def symbol(text):
+    return (b"\xa3" + short(text),)
+
+
+def ushort(number):
+    return (b"\x60" + struct.pack(">H", number),)

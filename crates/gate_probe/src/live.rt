@@ -2,15 +2,14 @@
 
 use crate::frames;
 use crate::peer::{Peer, TURNS, is_waiting};
-use crate::script::{HEADER, PLAY, Step};
+use crate::script::{HEADER, LOGIN, PLAY, Step};
 use std::alloc::Global;
-use std::io;
 use std::io::{Read, Write};
 use std::net::{Net, OpenListener, OpenStream, TcpListener, TcpStream};
 use std::process::{Child, Command, OpenProcess, Processes, Stdio};
 use std::rt::Clock;
-use std::thread;
 use std::time::Duration;
+use std::{io, thread};
 
 /// How often a client tries to connect while the program begins to listen.
 const ATTEMPTS: u32 = 10_000;
@@ -37,8 +36,6 @@ struct Peers<L: OpenListener + Drop> {
     /// Where the program connects to.
     listener: L,
     container: Option<Peer<L::Stream>>,
-    /// The clients that stand beside.
-    idle: Vec<Peer<L::Stream>>,
 }
 
 impl<L: OpenListener + Drop> Peers<L>
@@ -71,9 +68,9 @@ where
         }
     }
 
-    /// Does the steps of the play, and counts the frames that are met; whether all came about.
-    fn play(&mut self, met: &mut u32) -> io::Result<bool> {
-        for step in &PLAY {
+    /// Does steps, and counts the frames that are met; whether all came about.
+    fn play(&mut self, steps: &[Step], met: &mut u32) -> io::Result<bool> {
+        for step in steps {
             if !self.act(step)? {
                 return Ok(false);
             }
@@ -85,14 +82,20 @@ where
     }
 }
 
-/// The next connection of a listener that doesn't wait; None where none comes.
+/// The next connection on which anything comes, of a listener that doesn't wait; None where none is.
+/// The program may connect only to learn whether the container is there.
 fn accepted<L: OpenListener>(alloc: Global, listener: &L) -> io::Result<Option<Peer<L::Stream>>>
 where
     L::Stream: Read + Write + OpenStream,
 {
     for _ in 0..TURNS {
         match listener.accept() {
-            Ok((stream, _)) => return Ok(Some(Peer::new(alloc, stream)?)),
+            Ok((stream, _)) => {
+                let mut peer = Peer::new(alloc, stream)?;
+                if peer.begins().unwrap_or(false) {
+                    return Ok(Some(peer));
+                }
+            }
             Err(error) if is_waiting(&error) => {}
             Err(error) => return Err(error),
         }
@@ -131,20 +134,6 @@ fn connected<R: Net + Clock, P: OpenProcess>(
     Ok(None)
 }
 
-/// A client that is greeted by connection.start; None where it isn't.
-fn greeted<R: Net + Clock, P: OpenProcess>(
-    rt: &R,
-    alloc: Global,
-    program: &mut Child<P>,
-    address: &str,
-) -> io::Result<Option<Peer<R::Stream>>> {
-    let Some(mut peer) = connected(rt, alloc, program, address)? else {
-        return Ok(None);
-    };
-    let is_greeted = peer.send(HEADER)? && peer.meet(frames::START)?;
-    Ok(is_greeted.then_some(peer))
-}
-
 /// Whether the program ends by itself, with success.
 fn ends_well<P: OpenProcess>(clock: &impl Clock, program: &mut Child<P>) -> io::Result<bool> {
     for _ in 0..ATTEMPTS {
@@ -156,32 +145,58 @@ fn ends_well<P: OpenProcess>(clock: &impl Clock, program: &mut Child<P>) -> io::
     Ok(false)
 }
 
-/// Plays with a program that runs, and counts the frames that are met; whether all came about, and
-/// the program ended well.
-fn played<R: Net + Clock, P: OpenProcess>(
+/// Clients that are greeted, and do nothing more; None where one can't connect or isn't greeted.
+fn idle_clients<R: Net + Clock, P: OpenProcess>(
     rt: &R,
     alloc: Global,
+    program: &mut Child<P>,
+    venue: Venue<'_>,
+) -> io::Result<Option<Vec<Peer<R::Stream>>>> {
+    let mut idle = Vec::new(alloc);
+    for _ in 0..venue.idle {
+        let Some(mut peer) = connected(rt, alloc, program, venue.listen)? else {
+            return Ok(None);
+        };
+        peer.send(HEADER)?;
+        idle.push(peer)?;
+    }
+    for peer in &mut idle {
+        if !peer.meet(frames::START)? {
+            return Ok(None);
+        }
+    }
+    Ok(Some(idle))
+}
+
+/// Plays with a program that runs, and counts the frames that are met; whether all came about, and
+/// the program ended well.
+fn played<R: Net + Clock + AllocGlobal, P: OpenProcess>(
+    rt: &R,
     listener: R::Listener,
     program: &mut Child<P>,
     venue: Venue<'_>,
     met: &mut u32,
 ) -> io::Result<bool> {
-    let Some(client) = greeted(rt, alloc, program, venue.listen)? else {
+    let alloc = rt.alloc();
+    let Some(client) = connected(rt, alloc, program, venue.listen)? else {
         return Ok(false);
     };
-    *met = 1;
-    let mut peers = Peers { alloc, client, listener, container: None, idle: Vec::new(alloc) };
-    for _ in 0..venue.idle {
-        let Some(client) = greeted(rt, alloc, program, venue.listen)? else {
-            return Ok(false);
-        };
-        peers.idle.push(client)?;
-    }
-    if !peers.play(met)? {
+    let mut peers = Peers {
+        alloc,
+        client,
+        listener,
+        container: None,
+    };
+    if !peers.play(&LOGIN, met)? {
         return Ok(false);
     }
+    let Some(idle) = idle_clients(rt, alloc, program, venue)? else {
+        return Ok(false);
+    };
+    let is_played = peers.play(&PLAY, met)?;
+    drop(idle);
     drop(peers);
-    ends_well(rt, program)
+    Ok(is_played && ends_well(rt, program)?)
 }
 
 /// Starts the program and plays with it; whether all came about. `met` is how many frames were met.
@@ -189,17 +204,16 @@ fn played<R: Net + Clock, P: OpenProcess>(
 ///
 /// # Errors
 ///
-/// Where an address can't be used, the program can't be started, or an end is lost.
-pub fn live<R: Net + Processes + Clock>(
+/// Where an address can't be used, the program can't be started, or a stream fails.
+pub fn live<R: Net + Processes + Clock + AllocGlobal>(
     rt: &R,
-    alloc: Global,
     venue: Venue<'_>,
     met: &mut u32,
 ) -> io::Result<bool> {
     let listener = TcpListener::bind(rt, venue.upstream)?;
     listener.set_nonblocking(true)?;
-    let mut program = started(alloc, rt, venue)?;
-    let outcome = played(rt, alloc, listener, &mut program, venue, met);
+    let mut program = started(rt.alloc(), rt, venue)?;
+    let outcome = played(rt, listener, &mut program, venue, met);
     // (it may have ended)
     let _ = program.kill();
     let _ = program.wait();

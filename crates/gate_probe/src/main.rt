@@ -92,7 +92,7 @@ fn tell_live<R: Net + Processes + Clock + Print + Eprint + AllocGlobal>(
     venue: Venue<'_>,
 ) -> io::Result<bool> {
     let mut met = 0;
-    let is_well = match live(rt, rt.alloc(), venue, &mut met) {
+    let is_well = match live(rt, venue, &mut met) {
         Ok(is_well) => is_well,
         Err(error) => {
             eprintln!(rt; "{error}")?;
@@ -116,11 +116,17 @@ fn run(rt: &HostRuntime) -> io::Result<ExitCode> {
         Some(Task::Live(venue)) => tell_live(rt, venue)?,
         None => {
             println!(rt; "usage")?;
-            eprintln!(rt; "usage: gate_probe suite | gate_probe live PROGRAM [LISTEN UPSTREAM IDLE]")?;
+            eprintln!(rt;
+                "usage: gate_probe suite | gate_probe live PROGRAM [LISTEN UPSTREAM IDLE]"
+            )?;
             return Ok(ExitCode::from(USAGE));
         }
     };
-    Ok(if is_well { ExitCode::SUCCESS } else { ExitCode::FAILURE })
+    Ok(if is_well {
+        ExitCode::SUCCESS
+    } else {
+        ExitCode::FAILURE
+    })
 }
 
 fn main(rt: HostRuntime) -> ExitCode {

@@ -1,7 +1,5 @@
 //! A peer of the gateway, over a stream that doesn't wait.
 
-ghost use Rattle.std.specs.Prelude.{◌≡◌, ◌≤◌, length, IfOk};
-
 use crate::frames::bytes_of;
 use std::alloc::Global;
 use std::io;
@@ -25,10 +23,7 @@ pub struct Peer<S: Drop> {
 
 /// Whether the system has nothing to give or to take yet.
 pub fn is_waiting(error: &io::Error) -> bool {
-    matches!(
-        error.kind(),
-        ErrorKind::WouldBlock | ErrorKind::Interrupted
-    )
+    matches!(error.kind(), ErrorKind::WouldBlock | ErrorKind::Interrupted)
 }
 
 fn no_memory(_memory: Memory) -> io::Error {
@@ -73,6 +68,19 @@ impl<S: Read + Write + OpenStream + Drop> Peer<S> {
             }
             let is_other = !wanted.as_slice().starts_with(self.came.as_slice());
             if is_other || !self.read()? {
+                return Ok(false);
+            }
+        }
+        Ok(false)
+    }
+
+    /// Waits for the first bytes that come; whether any did.
+    pub fn begins(&mut self) -> io::Result<bool> {
+        for _ in 0..TURNS {
+            if !self.came.as_slice().is_empty() {
+                return Ok(true);
+            }
+            if !self.read()? {
                 return Ok(false);
             }
         }

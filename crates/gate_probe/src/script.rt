@@ -63,8 +63,10 @@ const PEER_BEGIN: &str = "00000018 02 00 0001 005311 C00B05 600001 43 5264 5264 
 const PEER_ATTACH: &str = "00000024 02 00 0001 005312 C01707 A1036C2D30 43 41 40 40 \
     00532845 005329C00401A10171";
 
-/// All that comes once the client was greeted.
-pub const PLAY: [Step; 32] = [
+/// Both open their connections.
+pub const LOGIN: [Step; 15] = [
+    ClientSends(HEADER),
+    ClientMeets(frames::START),
     ClientSends(START_OK),
     ClientMeets(frames::TUNE),
     ClientSends(TUNE_OK),
@@ -78,6 +80,10 @@ pub const PLAY: [Step; 32] = [
     ContainerMeets(frames::OPEN),
     ContainerSends(PEER_OPEN),
     ClientMeets(frames::OPEN_OK),
+];
+
+/// All that comes behind it.
+pub const PLAY: [Step; 19] = [
     ClientSends(frames::CHANNEL_OPEN),
     ContainerMeets(frames::BEGIN),
     ContainerSends(PEER_BEGIN),
