@@ -463,6 +463,7 @@ class Checker:
     def read(self):
         """What each side says, by bodies: the name of a client and the number of its publish."""
         self.published, self.confirmed, self.got, self.settled, self.closes, self.orderly = {}, {}, {}, {}, {}, set()
+        self.did, self.leaving = {}, set()
         open_ones = collections.defaultdict(list)
         for moment, what, name, *rest in self.clients:
             if what == "publishes":
@@ -482,11 +483,15 @@ class Checker:
                 self.once(self.got, (name, rest[0]), rest[1], "a delivery")
             elif what in ("acks", "rejects", "requeues", "keeps"):
                 self.settled.setdefault(rest[1], collections.Counter())[what] += 1
+                self.did[name, rest[1]] = what
+            if what in ("closes", "is cut off"):
+                self.leaving.add(name)
             self.counts[COUNTED.get(what, "other entries")] += 1
-        self.taken, self.sent, self.told, self.ends = {}, {}, {}, {}
+        self.taken, self.sent, self.told, self.ends, self.names = {}, {}, {}, {}, {}
         for moment, what, name, *rest in self.container:
             if what == "takes":
                 self.once(self.taken, rest[1], (name, rest[0], rest[2], moment), "a transfer")
+                self.names[name] = rest[1].split(" ")[0]
             elif what == "sends":
                 self.once(self.sent, (name, rest[0]), (rest[1], moment), "a delivery-id")
             elif what == "ends":
@@ -533,8 +538,13 @@ class Checker:
         for key, (body, moment) in self.sent.items():
             is_settled, is_left = key in self.told, told["delivery"].get(key) == "left"
             self.must(not (is_settled and is_left), f"a delivery is settled and left: {key}")
-            # (what the container sent as the gateway's end of the session came across isn't owed)
-            is_owed = body in self.settled or moment + CROSSING < self.ends.get(key[0], moment)
+            # Owed is what its client got, and what came long before the end; what the container sent as that came across isn't.
+            client = self.names.get(key[0])
+            did = self.did.get((client, body))
+            is_owed = did or moment + CROSSING < self.ends.get(key[0], 0)
+            # A container that was killed has no end in its log. What went to it just before isn't there either.
+            if key[0] not in self.ends:
+                is_owed = did == "keeps" and client not in self.leaving
             self.must(is_settled or is_left or not is_owed, f"a delivery is neither settled nor left: {key}")
         for body, (name, number, state, _) in self.taken.items():
             line = told["publish"].get((name, number))
