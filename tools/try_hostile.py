@@ -41,8 +41,8 @@ from wire import described, frame, frame10, long, method, short, symbol, ushort
 
 MOST = {CLIENT: 131_072, UP: 65_536}
 LINE = re.compile(r"pair (\d+) (closed|life \d+ publish \d+ (lost|unknown)|life \d+ delivery \d+ (left|lost))")
-# How long a round and an upstream connection live at most, and how long the last pairs may take to close, in seconds.
-ROUND, LAST = 2.0, 15.0
+# How long a round lasts at most, how long the last pairs may take to close, and a peaceful client to be served, in seconds.
+ROUND, LAST, PEACE = 2.0, 25.0, 30.0
 
 
 # ---- units of both standards
@@ -562,7 +562,7 @@ class Run:
         body = method(1, 60, 40, b"\0\0\0" + short(b"q") + b"\0") + frame(2, 1, struct.pack(">HHQH", 60, 0, 2, 0)) + frame(3, 1, b"hi")
         wanted = [(10, 10), (10, 30), None, (10, 41), (20, 11), (85, 11), (60, 80), (10, 51)]
         says = [*LOGIN, CHANNEL_OPEN, SELECT, body, CLOSE_091]
-        until, heard = time.monotonic() + 10, []
+        until, heard = time.monotonic() + PEACE, []
         for unit, method_id in zip(says, wanted):
             end.stream.sendall(unit)
             while method_id and method_id not in heard:

@@ -1,10 +1,12 @@
 //! The suite: frames of both protocols, read whole and in part, and written again.
 
-ghost use Rattle.std.specs.Prelude.{◌≡◌, ◌<◌, ◌≤◌, ℕ, ◌×◌, List, true, length, take, All, IfOk, IfSome};
+ghost use Rattle.std.specs.Prelude.{◌≡◌, ℕ, ◌<◌, ◌≤◌, ◌++◌, true, length, take, IfOk, IfSome};
+ghost use Rattle.std.specs.List.{AllByRecursion};
 ghost use Rattle.frames_091.specs.Frames.{frame_text};
-ghost use Rattle.frames_10.specs.Frames as frames_10;
-ghost use Rattle.gate_probe.specs.Passing.{IsCutOff, IsReadBack, IsPassing};
-ghost use Rattle.gate_probe.specs.Passing.{IsMethodAgain, IsBodyAgain};
+ghost use Rattle.frames_10.specs.Frames as texts_10;
+ghost use Rattle.performatives_10.specs.Writing.{perf_text};
+ghost use Rattle.gate_probe.specs.Passing.{IsMethodAgain, IsBodyAgain, IsReadBack};
+ghost use Rattle.gate_probe.specs.Passing.{IsCutOff, IsPassing};
 
 use crate::frames;
 use crate::frames::bytes_of;
@@ -121,6 +123,7 @@ fn are_shorter_cut_off(alloc: Global, protocol: Protocol, bytes: &[u8]) -> Resul
 }
 
 /// What is written of the method that a payload spells, if it spells one.
+#[tactic(auto, using(crate::proofs::Passing::is_method_again))]
 fn method_again(alloc: Global, payload: &[u8]) -> Result<Option<ByteText>, Memory>
     ensures { IfOk result (λ again. IfSome again (IsMethodAgain payload.now)) }
 {
@@ -148,6 +151,7 @@ fn perf_and(alloc: Global, perf: &Perf, payload: &[u8]) -> Result<Option<ByteTex
 }
 
 /// What is written of the performative with which a body begins, if it does, and of what follows.
+#[tactic(auto, using(crate::proofs::Passing::is_body_again))]
 fn body_again(alloc: Global, body: &[u8]) -> Result<Option<ByteText>, Memory>
     ensures { IfOk result (λ again. IfSome again (IsBodyAgain body.now)) }
 {
@@ -176,7 +180,7 @@ fn is_spelled(alloc: Global, frame: &Frame91, bytes: &[u8]) -> Result<bool, Memo
 
 /// The same of AMQP 1.0.
 fn is_spelled10(alloc: Global, frame: &Frame10, bytes: &[u8]) -> Result<bool, Memory>
-    ensures { IfOk result (λ is. is ≡ true → bytes.now ≡ frames_10.frame_text frame.now) }
+    ensures { IfOk result (λ is. is ≡ true → bytes.now ≡ texts_10.frame_text frame.now) }
 {
     if frame.body.as_slice().len() >= WRITABLE {
         return Ok(false);
@@ -187,6 +191,7 @@ fn is_spelled10(alloc: Global, frame: &Frame10, bytes: &[u8]) -> Result<bool, Me
 }
 
 /// Whether bytes are those of one frame of AMQP 0-9-1 and are written of it again.
+#[tactic(auto, using(crate::proofs::Passing::is_read_back091))]
 fn is_read_back091(alloc: Global, bytes: &[u8]) -> Result<bool, Memory>
     ensures { IfOk result (λ is. is ≡ true → IsReadBack Protocol.Amqp091 bytes.now) }
 {
@@ -204,6 +209,7 @@ fn is_read_back091(alloc: Global, bytes: &[u8]) -> Result<bool, Memory>
 }
 
 /// The same of AMQP 1.0.
+#[tactic(auto, using(crate::proofs::Passing::is_read_back10))]
 fn is_read_back10(alloc: Global, bytes: &[u8]) -> Result<bool, Memory>
     ensures { IfOk result (λ is. is ≡ true → IsReadBack Protocol.Amqp10 bytes.now) }
 {
@@ -222,8 +228,7 @@ fn is_read_back10(alloc: Global, bytes: &[u8]) -> Result<bool, Memory>
 
 /// Whether a frame is read whole and written again equal, and each shorter length is cut off.
 fn passes(alloc: Global, sample: &Sample) -> Result<bool, Memory>
-    ensures { IfOk result (λ passes. passes ≡ true
-        → IsPassing sample.now.protocol sample.now.bytes) }
+    ensures { IfOk result (λ passes. passes ≡ true → IsPassing sample.now) }
 {
     let bytes = sample.bytes.as_slice();
     let is_read_back = match sample.protocol {
@@ -241,7 +246,7 @@ fn passes(alloc: Global, sample: &Sample) -> Result<bool, Memory>
 pub fn count_passing(alloc: Global, samples: &[Sample]) -> Result<usize, Memory>
     ensures most { IfOk result (λ count. count ≤ length samples.now) }
     ensures all { IfOk result (λ count. count ≡ length samples.now
-        → All (λ s. IsPassing s.protocol s.bytes) samples.now) }
+        → AllByRecursion IsPassing samples.now) }
 {
     let mut count = 0;
     for sample in samples {
