@@ -463,7 +463,7 @@ class Checker:
     def read(self):
         """What each side says, by bodies: the name of a client and the number of its publish."""
         self.published, self.confirmed, self.got, self.settled, self.closes, self.orderly = {}, {}, {}, {}, {}, set()
-        self.did, self.leaving = {}, set()
+        self.did, self.leaving, self.gets = {}, set(), collections.Counter()
         open_ones = collections.defaultdict(list)
         for moment, what, name, *rest in self.clients:
             if what == "publishes":
@@ -481,6 +481,7 @@ class Checker:
                 self.closes[name] = moment
             elif what == "gets":
                 self.once(self.got, (name, rest[0]), rest[1], "a delivery")
+                self.gets[name, rest[1]] += 1
             elif what in ("acks", "rejects", "requeues", "keeps"):
                 self.settled.setdefault(rest[1], collections.Counter())[what] += 1
                 self.did[name, rest[1]] = what
@@ -535,12 +536,14 @@ class Checker:
                 self.counts[f"lines of a {found[2]} {found[4]}"] += 1
         if self.epoch.is_killed:
             return
+        seen = collections.Counter()
         for key, (body, moment) in self.sent.items():
             is_settled, is_left = key in self.told, told["delivery"].get(key) == "left"
             self.must(not (is_settled and is_left), f"a delivery is settled and left: {key}")
             # Owed is what its client got, and what came long before the end; what the container sent as that came across isn't.
             client = self.names.get(key[0])
-            did = self.did.get((client, body))
+            seen[key[0], body] += 1
+            did = self.did.get((client, body)) if seen[key[0], body] <= self.gets[client, body] else None
             is_owed = did or moment + CROSSING < self.ends.get(key[0], 0)
             # A container that was killed has no end in its log. What went to it just before isn't there either.
             if key[0] not in self.ends:
