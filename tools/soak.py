@@ -12,7 +12,7 @@ Container and clients log what they do before they do it, and what they are told
 another and against the report:
 
 - An ack comes only for a publish that the container accepted before, and a nack only for one that it didn't accept.
-- What the container accepted 2 seconds before its client closed is acked, where the connection lasted up to its close-ok.
+- What the container accepted 8 seconds before its client closed is acked, where the connection lasted up to its close-ok.
 - A publish without an outcome has its line in the report, where its transfer went `unknown`, else `lost`, and no other has one.
 - The container is told `accepted` only of a delivery that its client acked, and `rejected` only of one that it rejected.
 - Each delivery that came to a client, or came 5 seconds before the session ended, is settled by the gateway, or has its line `left`.
@@ -28,6 +28,7 @@ import json
 import os
 import random
 import re
+import signal
 import socket
 import struct
 import subprocess
@@ -44,7 +45,7 @@ from wire import Stream, arguments, described, frame, frame10, frame_10, long, m
 BUILT = "crates/amqp_gate/out/amqp_gate"
 STATES = {ACCEPTED: "accepted", REJECTED: "rejected", RELEASED: "released", 0x27: "modified"}
 # What the container accepts so many seconds before a client closes is acked before.
-SOON = 2.0
+SOON = 8.0
 # What the container sends so many seconds before an end comes was read by the gateway before it.
 CROSSING = 5.0
 LINE = re.compile(r"pair (\d+) life 1 (publish|delivery) (\d+) (\w+)")
@@ -194,7 +195,7 @@ class Connection:
             return
         handle, number, tag = self.carried
         body, self.parts = body_in(self.parts), b""
-        state = self.rng.choices((ACCEPTED, REJECTED, RELEASED, 0x27, None), (90, 3, 3, 2, 2))[0]
+        state = self.rng.choices((ACCEPTED, REJECTED, RELEASED, 0x27, None), (912, 30, 30, 25, 3))[0]
         self.log.put("takes", self.name, tag, body, STATES.get(state))
         if state is not None:
             self.send(frame10(1, DISPOSITION, True, number, None, True, described(state)))
@@ -337,7 +338,7 @@ class Client:
             self.stream.setsockopt(socket.SOL_SOCKET, socket.SO_LINGER, struct.pack("ii", 1, 0))
             self.log.put("is cut off", self.name)
             return
-        until = time.monotonic() + 2 * SOON
+        until = time.monotonic() + SOON + 2
         while self.confirmed < self.published and time.monotonic() < until:
             self.hear(0.1)
         self.log.put("closes", self.name)
@@ -376,6 +377,12 @@ class Epoch:
         words = [sys.executable, os.path.abspath(__file__), "0", "--contain", str(self.up_port), self.at("container"), str(self.options.seed)]
         self.container = subprocess.Popen(words, stdout=subprocess.PIPE)
         self.container.stdout.readline()
+
+    def end(self):
+        """Leaves no process behind, whatever came."""
+        for process in (self.gateway, self.container):
+            if process.poll() is None:
+                self.kill(process)
 
     def kill(self, process):
         process.kill()
@@ -573,12 +580,16 @@ def main():
     options = parser.parse_args()
     if options.contain:
         contain(int(options.contain[0]), *options.contain[1:])
+    signal.signal(signal.SIGTERM, lambda *_: sys.exit(143))
     print(f"seed {options.seed}", flush=True)
     end, counts, number, faults = time.monotonic() + 3600 * options.hours, collections.Counter(), 0, 0
     while time.monotonic() < end:
         with tempfile.TemporaryDirectory() as folder:
             epoch = Epoch(options, number, folder)
-            wrong = epoch.run()
+            try:
+                wrong = epoch.run()
+            finally:
+                epoch.end()
             counts.update(epoch.counts)
             for what in wrong[:10]:
                 print(f"WRONG: epoch {number}: {what}", flush=True)

@@ -27,6 +27,7 @@ import os
 import random
 import re
 import select
+import signal
 import socket
 import struct
 import subprocess
@@ -626,6 +627,7 @@ def main():
     parser.add_argument("--peers", type=int, default=16)
     parser.add_argument("--keep")
     options = parser.parse_args()
+    signal.signal(signal.SIGTERM, lambda *_: sys.exit(143))
     print(f"seed {options.seed}", flush=True)
     with tempfile.TemporaryDirectory() as made:
         folder = options.keep or made
