@@ -9,6 +9,8 @@ the addresses that it has by itself if their ports are free, and beside 255 idle
 """
 
 import argparse
+import os
+import signal
 import socket
 import subprocess
 import sys
@@ -50,13 +52,17 @@ def places():
 def is_well(title, words, wanted):
     """Whether a run of the probe prints what is wanted, with status 0."""
     begun = time.monotonic()
+    # (a session of its own, since the probe starts the gateway)
+    run = subprocess.Popen(words, stdout=subprocess.PIPE, stderr=subprocess.PIPE, text=True, start_new_session=True)
     try:
-        done = subprocess.run(words, stdout=subprocess.PIPE, stderr=subprocess.PIPE, text=True, timeout=SECONDS)
+        out, told = run.communicate(timeout=SECONDS)
     except subprocess.TimeoutExpired:
+        os.killpg(run.pid, signal.SIGKILL)
+        run.communicate()
         print(f"{title}: no end within {SECONDS} s")
         return False
-    fine = done.returncode == 0 and done.stdout == f"{wanted}\n"
-    said = wanted if fine else f"status {done.returncode}, {done.stdout.strip()!r}, {done.stderr.strip()!r}"
+    fine = run.returncode == 0 and out == f"{wanted}\n"
+    said = wanted if fine else f"status {run.returncode}, {out.strip()!r}, {told.strip()!r}"
     print(f"{title}: {said} ({time.monotonic() - begun:.1f} s)", flush=True)
     return fine
 
