@@ -350,7 +350,7 @@ class Container:
     """The container's side of one connection. It answers as a container does, and breaks some of it."""
 
     def __init__(self, end, rng, is_calm=False):
-        self.end, self.rng = end, rng
+        self.end, self.rng, self.is_calm = end, rng, is_calm
         self.broken = 0 if is_calm else rng.choice((0, 0, 0.02, 0.1, 0.5))
         self.silent = 0 if is_calm else rng.choice((0, 0, 0, 0.1))
         self.unasked = 0 if is_calm else rng.choice((0, 0.05, 0.3))
@@ -439,7 +439,7 @@ class Container:
 
     def serve(self, until):
         """Serves the connection up to its end, or a moment, or a whim."""
-        whim = time.monotonic() + self.rng.choice((0.01, 0.3, 9, 9)) * (1 if self.broken or self.unasked else 99)
+        whim = time.monotonic() + (1e9 if self.is_calm else self.rng.choice((0.01, 0.3, 9, 9, 99, 99)))
         while self.end.is_open and time.monotonic() < min(until(), whim):
             units = self.end.hear(0.05)
             out = []
