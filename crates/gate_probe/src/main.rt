@@ -102,7 +102,7 @@ fn tell_live<R: Net + Processes + Clock + Print + Eprint + AllocGlobal>(
     if is_well {
         println!(rt; "live: ok")?;
     } else {
-        let step = u64::from(met) + 1;
+        let step = met.saturating_add(1);
         println!(rt; "live: failed at {step}")?;
     }
     Ok(is_well)

@@ -205,7 +205,8 @@ fn is_read_back091(alloc: Global, bytes: &[u8]) -> Result<bool, Memory>
         return Ok(false);
     };
     frame.payload = payload;
-    is_spelled(alloc, &frame, bytes)
+    let is_written = is_spelled(alloc, &frame, bytes)?;
+    Ok(is_written)
 }
 
 /// The same of AMQP 1.0.
@@ -223,7 +224,8 @@ fn is_read_back10(alloc: Global, bytes: &[u8]) -> Result<bool, Memory>
         return Ok(false);
     };
     frame.body = body;
-    is_spelled10(alloc, &frame, bytes)
+    let is_written = is_spelled10(alloc, &frame, bytes)?;
+    Ok(is_written)
 }
 
 /// Whether a frame is read whole and written again equal, and each shorter length is cut off.
