@@ -6,7 +6,9 @@ mod capture_file;
 
 use capture_file::CaptureFile;
 use gate_command::{Asked, CaptureSink, Status, gateway, read_words};
-use gate_edge::{Outbox, OutboxSink, ReaderSource, RealPorts, StandardOut, WriterSink, tell};
+use gate_edge::{
+    Addresses, Outbox, OutboxSink, ReaderSource, RealPorts, StandardOut, WriterSink, tell,
+};
 use std::io;
 use std::process::ExitCode;
 use wire_base::{ByteText, Memory};
@@ -58,18 +60,21 @@ fn text_of(place: &Option<ByteText>) -> Option<&str> {
         .and_then(|place| str::from_utf8(place.as_slice()).ok())
 }
 
+/// The addresses of the ports, where the words give them.
+fn addresses_of(places: &Places) -> Option<Addresses<'_>> {
+    Some(Addresses {
+        listen: text_of(&places.listen)?,
+        upstream: text_of(&places.upstream)?,
+    })
+}
+
 /// Runs the top call over real ports; what it answers, or `Memory` where there is none to begin. A
 /// report that the standard output doesn't take is a fault of the outside.
 fn run(rt: &HostRuntime, words: &Vec<String>) -> Result<Status, Memory> {
     let places = places_of(rt, words)?;
     let outbox = Outbox::new(rt.alloc(), StandardOut::new(rt.stdout()))?;
-    let mut ports = RealPorts::new(
-        rt,
-        rt.alloc(),
-        &outbox,
-        text_of(&places.listen),
-        text_of(&places.upstream),
-    )?;
+    let addresses = addresses_of(&places);
+    let mut ports = RealPorts::new(rt, rt.alloc(), &outbox, addresses)?;
     let mut out = OutboxSink::new(&outbox);
     let file = CaptureFile::create(rt, text_of(&places.capture));
     let mut capture = CaptureSink {
