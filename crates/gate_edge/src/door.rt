@@ -97,12 +97,7 @@ impl<'a> Door<'a> {
     }
 
     /// The stream of a pair's upstream end, watched under its number.
-    pub(crate) fn link(
-        &mut self,
-        net: &impl Net,
-        pair: u32,
-        moment: u64,
-    ) -> io::Result<TcpStream> {
+    pub(crate) fn link(&mut self, net: &impl Net, pair: u32, moment: u64) -> io::Result<TcpStream> {
         self.upstream.stream(net, &self.watch, pair, moment)
     }
 

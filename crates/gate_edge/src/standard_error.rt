@@ -96,8 +96,8 @@ pub(crate) fn tell_container(
 /// Tells that no address of the container can be reached, and why not the last one.
 pub(crate) fn tell_lost(runtime: &impl Eprint, text: &str, error: &io::Error) {
     if may_write(libc::STDERR_FILENO) {
-        let _ = eprintln!(
-            runtime; "the container at {text} cannot be reached, clients are refused: {error}"
+        let _ = eprintln!(runtime;
+            "the container at {text} cannot be reached, clients are refused: {error}"
         );
     }
 }

@@ -137,7 +137,10 @@ impl<'a> Upstream<'a> {
         watch: &Watch,
         moment: u64,
     ) {
-        if self.asked.is_some_and(|at| at.saturating_add(PATIENCE) <= moment) {
+        if self
+            .asked
+            .is_some_and(|at| at.saturating_add(PATIENCE) <= moment)
+        {
             self.asked = None;
             self.suspect();
         }

@@ -1,7 +1,7 @@
 //! The tries to reach a server that has some addresses: at which of them, and when.
 
-ghost use Rattle.std.specs.Prelude.{◌≡◌, ◌≢◌, ◌+◌, ◌-◌, ◌*◌, ◌<◌, ◌≤◌, ◌^◌, ◌↔◌, ◌==◌, ◌&&◌};
-ghost use Rattle.std.specs.Prelude.{IsTrue, true, max, min};
+ghost use Rattle.std.specs.Prelude.{◌≡◌, ◌≢◌, ◌+◌, ◌-◌, ◌*◌, ◌<◌, ◌≤◌, ◌^◌, ◌↔◌};
+ghost use Rattle.std.specs.Prelude.{IsTrue, max, min};
 ghost use Rattle.gate_ends.specs.declared.tries.TheConstants.{REST, LOOK_UPS};
 
 /// How long after a round without success the next one begins at the soonest, in milliseconds.
