@@ -64,6 +64,16 @@ def asks(port):
             return type(error).__name__
 
 
+def enters(gateway):
+    """A client whose connection is open on both sides."""
+    stream = socket.create_connection(("127.0.0.1", gateway.port), timeout=30)
+    stream.sendall(OPENING)
+    what = met(stream)
+    if what != "open":
+        sys.exit(f"a client's connection isn't opened: {what}")
+    return stream
+
+
 def lines_with(gateway, text):
     return [line for line in gateway.lines() if text in line]
 
@@ -71,8 +81,7 @@ def lines_with(gateway, text):
 def full(program):
     waits = f"a client waits, and cannot be accepted: {MOST} are open"
     with Peer("contain") as container, Gateway(program, container=container) as gateway:
-        clients = [gateway.opened() for _ in range(MOST)]
-        must(all(clients), f"{MOST} clients are served")
+        clients = [enters(gateway) for _ in range(MOST)]
         time.sleep(1.2)
         must(not lines_with(gateway, "a client waits"), "nothing is told while none waits")
         late = gateway.client()
@@ -85,7 +94,7 @@ def full(program):
         time.sleep(1.2)
         clients.pop().close()
         time.sleep(1.2)
-        clients += [gateway.opened(), gateway.client()]
+        clients += [enters(gateway), gateway.client()]
         must(until(lambda: len(lines_with(gateway, waits)) == 2), "it is told again where it happens again")
     with socket.create_server(("127.0.0.1", 0), backlog=512) as mute:
         with Gateway(program, upstream=mute.getsockname()[1]) as gateway:
@@ -149,7 +158,7 @@ def outage(program):
             must(len(lines_with(gateway, "listening on")) == 2, "so is that it listens again")
             must([asks(gateway.port) for _ in range(5)] == ["open"] * 5, "others are served")
             must(not lines_with(gateway, "failed"), "a client that leaves is no failure of the container")
-            inside = [gateway.opened() for _ in range(3)]
+            inside = [enters(gateway) for _ in range(3)]
             waiting, entered = gateway.started(), time.monotonic()
         told = [met_close(stream) for stream in inside]
         began = time.monotonic()
@@ -213,7 +222,7 @@ def silent(program):
         port = container.getsockname()[1]
         held = [socket.socket() for _ in range(2)]
         with Gateway(program, upstream=port) as gateway:
-            must(gateway.opened is not None and not lines_with(gateway, "cannot be reached"), "it is reached at first")
+            must(not lines_with(gateway, "cannot be reached"), "it is reached at first")
             for stream in held:
                 stream.setblocking(False)
                 stream.connect_ex(("127.0.0.1", port))
