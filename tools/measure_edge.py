@@ -19,8 +19,8 @@ It starts the program on free ports of 127.0.0.1, ends each by its process id, a
 - waits: the processor time that one read takes in which frames of a channel wait for the container's begin, and others pass on another
   channel behind them, as the median of 5;
 - output: whether a standard output that nobody reads stalls clients, and that its lines come once it is read;
-- ends: what is reported of a client that resets its connection, what one gets that sent much more than was read before it was
-  refused, and what is told where no container listens;
+- ends: what is reported of a client that resets its connection, and what one gets that sent much more than was read before it was
+  refused;
 - addresses: what is told of addresses that can't be used.
 
 No container is needed: where connections are opened, the script starts one of its own, which logs every client in, answers its open,
@@ -141,7 +141,7 @@ def greet(stream):
     stream.sendall(bytes(START))
 
 
-def listen(port, act, at_once):
+def listen(port, act, at_once, address="127.0.0.1"):
     """Does so with each that connects: with all at once, one thread each, or with one after another."""
 
     def alone(stream):
@@ -151,7 +151,7 @@ def listen(port, act, at_once):
             except OSError:
                 pass
 
-    with socket.create_server(("127.0.0.1", port), backlog=512) as listener:
+    with socket.create_server((address, port), backlog=512) as listener:
         while True:
             stream = listener.accept()[0]
             if at_once:
@@ -188,21 +188,32 @@ def listens(port):
 
 
 class Gateway:
-    """A running gateway on a port of its own, ended at the end of the block. Without a container nothing listens upstream."""
+    """A running gateway on a port of its own, ended at the end of the block.
 
-    def __init__(self, program, descriptors=None, out=None, container=None):
+    Upstream is a container or an address that are given, or else a listener that answers nothing. The program may be several words.
+    `waits`: whether it is waited for until clients are let in.
+    """
+
+    def __init__(self, program, descriptors=None, out=None, container=None, upstream=None, waits=True):
         self.port = free_port()
         self.said = tempfile.TemporaryFile()
+        self.waits = waits
+        self.mute = None
         limit = None
         if descriptors:
             limit = lambda: resource.setrlimit(resource.RLIMIT_NOFILE, (descriptors, descriptors))
-        self.upstream = container.port if container else free_port()
-        words = [program, "serve", "--listen", f"127.0.0.1:{self.port}", "--upstream", f"127.0.0.1:{self.upstream}"]
+        self.upstream = container.port if container else upstream
+        if not self.upstream:
+            self.mute = socket.create_server(("127.0.0.1", 0), backlog=512)
+            self.upstream = self.mute.getsockname()[1]
+        behind = self.upstream if ":" in str(self.upstream) else f"127.0.0.1:{self.upstream}"
+        program = [program] if isinstance(program, str) else program
+        words = [*program, "serve", "--listen", f"127.0.0.1:{self.port}", "--upstream", behind]
         self.process = subprocess.Popen(words, stdout=out or self.said, stderr=self.said, preexec_fn=limit)
 
     def __enter__(self):
         for _ in range(200):
-            if listens(self.port):
+            if not self.waits and self.lines() or listens(self.port):
                 time.sleep(0.2)
                 return self
             time.sleep(0.02)
@@ -212,6 +223,8 @@ class Gateway:
         self.process.terminate()
         self.process.wait()
         self.said.close()
+        if self.mute:
+            self.mute.close()
 
     def client(self):
         return socket.create_connection(("127.0.0.1", self.port), timeout=2)
@@ -620,17 +633,6 @@ def reset(program):
         print(f"a client that resets: {gateway.lines()[-1:]}, and the next one {'is' if gateway.started() else 'is not'} served")
 
 
-def without_container(program):
-    with Gateway(program) as gateway:
-        found = []
-        for _ in range(3):
-            with gateway.client() as stream:
-                stream.sendall(OPENING)
-                found.append(met(stream))
-        time.sleep(0.2)
-        print(f"3 clients without a container: {', '.join(found)}; told {gateway.told()}")
-
-
 def refused_late(program):
     with Gateway(program) as gateway:
         stream = gateway.client()
@@ -683,7 +685,7 @@ MEASURES = {
     "bursts": [bursts],
     "waits": [waits],
     "output": [unread_output],
-    "ends": [reset, refused_late, without_container],
+    "ends": [reset, refused_late],
     "addresses": [addresses],
 }
 

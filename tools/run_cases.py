@@ -10,6 +10,7 @@ A NAME is that of a part of the cases, and each part is meant where none is give
     paths       credit, handles, publishes and deliveries, call by call
     turns       the loop with both ends, ports, streams, the ends of pairs, captures
     gateway     the gateway: scenarios of clients and containers, its command line, its captures
+    broken      what breaks a run of the gateway: malformed units, streams that end anywhere, calls that fail
 
 Its cases are the lines of tools/cases/NAME.txt, and tools/cases/NAME.answers.txt has what is to be printed for them. How a line
 becomes calls, and what is printed of their answers, says tools/cases/NAME.py. The calls go to the program that `rt ci` left in
@@ -33,7 +34,7 @@ from cases.told_bytes import NoCase
 TOOLS = Path(__file__).resolve().parent
 CASES = TOOLS / "cases"
 BUILT = TOOLS.parent / "crates/tests_gate/out/tests_gate"
-PARTS = ("amqp_10", "amqp_091", "paths", "turns", "gateway")
+PARTS = ("amqp_10", "amqp_091", "paths", "turns", "gateway", "broken")
 SECONDS = 600
 
 

@@ -113,6 +113,9 @@ class Rig:
             command = [*shlex.split(self.options.container), "--port", str(self.up_port)]
             self.container = subprocess.Popen(command, stdout=said)
         wait_for(self.up_port, self.container)
+        if self.gateway:
+            # It listens again once it has reached the container.
+            wait_for(self.port, self.gateway)
         self.log = Tail(self.at("container"))
 
     def kill(self):

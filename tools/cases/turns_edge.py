@@ -17,6 +17,7 @@ given is a 7, `waits` or `fails`.
 | `finds ends` | 256 ends are open, and the oldest but one is closed 2,999 times |
 | `has room` | five buffers serve clients and the ends upstream |
 | `pace` | the moments at which a line is told |
+| `tries COUNT FAILS TOOK MOMENT` | what is known of a server with so many addresses that was reached, once so many tries failed |
 
 An end that was shut is asked three times: at first, once another end may be written, and once it may be. Where it would
 have waited it takes bytes from then on.
@@ -190,6 +191,12 @@ def pace():
     return answer
 
 
+def tries(*numbers):
+    """The look-ups of the rounds took TOOK milliseconds each."""
+    (answer,) = yield [call("tries", *numbers)]
+    return answer
+
+
 WITH_STREAM = {case.__name__: case for case in (source, sink, reads, sends, overfills, passes, reports, parts)}
 ALONE = {"reads when told": reads_when_told, "finds ends": finds_ends, "has room": has_room, "pace": pace}
 
@@ -198,6 +205,8 @@ def edge_case(line):
     """The case that a line tells, or None."""
     if line in ALONE:
         return ALONE[line]()
+    if line.startswith("tries "):
+        return tries(*map(number, line.split()[1:]))
     words = line.split(" ", 2)
     if len(words) == 3 and words[0] in WITH_STREAM:
         return WITH_STREAM[words[0]](number(words[1]), stream_of(words[2]))

@@ -1,9 +1,13 @@
 //! The file of a capture.
 
 use gate_edge::tell;
-use std::fs::{File, create};
+use std::fs::{File, OpenOptions};
 use std::io;
 use std::io::{ErrorKind, Write};
+use std::os::unix::fs::OpenOptionsExt;
+
+/// The mode of a file that is made: its owner's alone, since logins stand in it.
+const MODE: u32 = 0o600;
 
 /// The file that a capture is written to, each entry as it comes. Where none could be made, each
 /// write to it fails.
@@ -17,7 +21,7 @@ impl<'a> CaptureFile<'a> {
     /// Makes the file, or empties the one that is there; without a path there is none. The standard
     /// error is told why it can't be made.
     pub fn create(rt: &'a HostRuntime, path: Option<&str>) -> CaptureFile<'a> {
-        let file = path.and_then(|path| match create(rt, path) {
+        let file = path.and_then(|path| match make(rt, path) {
             Ok(file) => Some(file),
             Err(error) => {
                 tell_unmade(rt, path, &error);
@@ -26,6 +30,13 @@ impl<'a> CaptureFile<'a> {
         });
         CaptureFile { rt, file }
     }
+}
+
+/// Makes a file, or empties the one that is there, which keeps its mode.
+fn make(rt: &HostRuntime, path: &str) -> io::Result<File> {
+    let mut options = OpenOptions::new();
+    options.write(true).create(true).truncate(true).mode(MODE);
+    options.open(rt, path)
 }
 
 /// Tells why a file can't be made.

@@ -3,6 +3,7 @@
 //! and kept.
 #![tactic(auto)]
 
+mod clock;
 mod door;
 mod faults;
 mod outbox;
@@ -14,6 +15,6 @@ mod upstream;
 mod waiting;
 
 pub use outbox::{Outbox, OutboxSink, StandardOut};
-pub use real_ports::RealPorts;
+pub use real_ports::{Addresses, RealPorts};
 pub use standard::{ReaderSource, WriterSink};
 pub use standard_error::tell;

@@ -6,10 +6,10 @@ ghost use Rattle.gate_outside.specs.Ends.{IsNumbered, pairs_after, ends_accepted
 ghost use Rattle.gate_ends.specs.OpenEnds.{HasRoom};
 ghost use Rattle.gate_ends.specs.declared.pieces.TheConstants.{PIECE};
 
+use crate::clock::{elapsed, is_lively};
 use crate::door::Door;
 use crate::faults::raise;
 use crate::outbox::Outbox;
-use crate::upstream::Upstream;
 use crate::waiting::{Said, said_by};
 use gate_ends::{
     ENDS, Link, OpenEnds, PIECE, Parting, Unsent, accepted_of, is_used_up, is_waiting,
@@ -19,18 +19,21 @@ use gate_outside::{Accepted, End, Got, Linked, Next, Ports, Put};
 use mio::net::TcpStream;
 use std::alloc::Global;
 use std::io;
-use std::io::{Eprint, Write};
+use std::io::{Eprint, ErrorKind, Write};
 use std::net::{Net, Shutdown};
 use std::rt::Clock;
 use std::time::{Duration, Instant};
 use wire_base::Memory;
 
-/// How long `idle` waits at most, in milliseconds.
-const IDLE_WAIT: u64 = 10;
+/// How long `idle` waits at most, in milliseconds. Heartbeats and limits of time are in seconds.
+const IDLE_WAIT: u64 = 40;
 
-/// For how long after the system said something `idle` doesn't wait, in microseconds: what follows
-/// often comes at once, and a wait is left more slowly than it is not begun.
-const LIVELY: u128 = 100;
+/// Where clients are awaited, and where the container is: an address or a name, with a port.
+#[derive(Clone, Copy, Debug)]
+pub struct Addresses<'a> {
+    pub listen: &'a str,
+    pub upstream: &'a str,
+}
 
 /// The turns that `finish` makes at most. What it waits for is over before.
 const LAST_TURNS: u32 = 10_000;
@@ -40,13 +43,19 @@ const LAST_TURNS: u32 = 10_000;
 /// Room for 256 pairs is taken when the ports are made, or for as many as the system has
 /// descriptors left for, two for each. Accept answers NotYet while there is no room for a client
 /// and for the upstream end of its pair; so a client that was accepted isn't refused for want of
-/// it. Where the listening address is not given or cannot be bound each accept fails, and without
-/// an upstream address each connect. No error of one accept is a fault: it is answered NotYet. It
-/// is told on the standard error, once a second at most, and so are a client that waits for room
-/// and a connection to the container that fails.
+/// it. Where the addresses are not given, the one cannot be bound or the other not be found when
+/// the ports are made, each accept fails. No error of one accept is a fault: it is answered NotYet.
+/// It is told on the standard error, once a second at most, and so is a connection to the container
+/// that fails. That a client waits for room is told once for each time.
+///
+/// Where a connection to the container fails or ends, a connect of the ports' own tells whether it
+/// is there still, and accept answers NotYet until that is known. While it cannot be reached the
+/// listener is closed, and each second a connect is tried to each address that the system finds for
+/// it then. That too is told, and that it is reached again. A stream that connected so is that of
+/// the next pair, for 5,000 ms.
 ///
 /// A call on an end asks the system only where it may do something: `now` learns what is ready, and
-/// `idle` waits for it, for 10 ms at most. What a write takes is buffered, 65,536 bytes an end, and
+/// `idle` waits for it, for 40 ms at most. What a write takes is buffered, 65,536 bytes an end, and
 /// goes out at the next `now`, `idle` or `shut`, or when the buffer is full. 32,768 bytes and more
 /// in one write go past it where nothing waits. What the outbox holds goes out at `now` and `idle`.
 /// An end that was shut is kept aside until its bytes are sent, for 1,000 ms at most.
@@ -54,8 +63,7 @@ const LAST_TURNS: u32 = 10_000;
 pub struct RealPorts<'a, R: Net + Clock + Eprint, W: Write> {
     runtime: &'a R,
     outbox: &'a Outbox<W>,
-    door: Option<Door>,
-    upstream: Upstream,
+    door: Option<Door<'a>>,
     start: Option<Instant>,
     held: OpenEnds<TcpStream>,
     partings: Vec<Parting<TcpStream>>,
@@ -71,14 +79,14 @@ pub struct RealPorts<'a, R: Net + Clock + Eprint, W: Write> {
 }
 
 impl<'a, R: Net + Clock + Eprint, W: Write + Drop> RealPorts<'a, R, W> {
-    /// Looks both addresses up, which may wait for the system, and binds the first. The standard
-    /// error is told where it listens, or why it does not.
+    /// Looks both addresses up, that to listen at and the container's, which may wait for the
+    /// system, and binds the first. The standard error is told where it listens, or why it does
+    /// not.
     pub fn new(
         runtime: &'a R,
         alloc: Global,
         outbox: &'a Outbox<W>,
-        listen: Option<&str>,
-        upstream: Option<&str>,
+        addresses: Option<Addresses<'a>>,
     ) -> Result<RealPorts<'a, R, W>, Memory>
         ensures faults { IfOk result (λ ports. ⟦<RealPorts<'a, R, W> as Ports>⟧.faults ports ≡ 0) }
         ensures pairs { IfOk result (λ ports. ⟦<RealPorts<'a, R, W> as Ports>⟧.pairs ports ≡ 0) }
@@ -86,8 +94,8 @@ impl<'a, R: Net + Clock + Eprint, W: Write + Drop> RealPorts<'a, R, W> {
         ensures last { IfOk result (λ ports. ⟦<RealPorts<'a, R, W> as Ports>⟧.last ports ≡ 0) }
         ensures log { IfOk result (λ ports. ⟦<RealPorts<'a, R, W> as Ports>⟧.log ports ≡ None) }
     {
-        let door = match listen {
-            Some(text) => Door::open(runtime, alloc, text)?,
+        let door = match addresses {
+            Some(addresses) => Door::open(runtime, alloc, addresses)?,
             None => None,
         };
         let buffers = match &door {
@@ -98,7 +106,6 @@ impl<'a, R: Net + Clock + Eprint, W: Write + Drop> RealPorts<'a, R, W> {
             runtime,
             outbox,
             door,
-            upstream: Upstream::look_up(runtime, upstream),
             start: Instant::now(runtime).ok(),
             held: OpenEnds::new(alloc, buffers)?,
             partings: Vec::with_capacity(alloc, ENDS)?,
@@ -122,18 +129,6 @@ impl<'a, R: Net + Clock + Eprint, W: Write + Drop> RealPorts<'a, R, W> {
             self.now();
         }
     }
-}
-
-/// The milliseconds since the start, where the clock tells them.
-fn elapsed(clock: &impl Clock, start: Option<Instant>) -> Option<u64> {
-    let elapsed = start?.elapsed(clock).ok()?;
-    Some(u64::try_from(elapsed.as_millis()).unwrap_or(u64::MAX))
-}
-
-/// Whether the system said something just now.
-fn is_lively(clock: &impl Clock, said_at: Option<Instant>) -> bool {
-    let elapsed = said_at.and_then(|at| at.elapsed(clock).ok());
-    elapsed.is_some_and(|time| time.as_micros() < LIVELY)
 }
 
 /// Ends a stream, and gives its buffer. `Err` where the system did not take the end.
@@ -164,7 +159,7 @@ fn send(held: &mut OpenEnds<TcpStream>, partings: &mut Vec<Parting<TcpStream>>, 
 /// Asks the system what is ready, and waits for it so long at most; whether it said something.
 /// Where it cannot say, all may be ready.
 fn ask(
-    door: &mut Door,
+    door: &mut Door<'_>,
     held: &mut OpenEnds<TcpStream>,
     partings: &mut [Parting<TcpStream>],
     most: u64,
@@ -174,12 +169,14 @@ fn ask(
 {
     if door.watch.wait(Duration::from_millis(most)).is_err() {
         door.knocked = true;
+        door.upstream.spoke = true;
         held.note_all();
         return false;
     }
     for event in door.watch.events.iter() {
         match said_by(event) {
             Some(Said::Listener) => door.knocked = true,
+            Some(Said::Try) => door.upstream.spoke = true,
             Some(
                 Said::End {
                     pair,
@@ -188,6 +185,9 @@ fn ask(
                     writable,
                 },
             ) => {
+                if end == End::Up {
+                    door.upstream.asked = None;
+                }
                 held.note(pair, end, readable, writable);
                 note_parting(partings, pair, end, writable);
             }
@@ -232,11 +232,7 @@ impl<'a, R: Net + Clock + Eprint, W: Write + Drop> Ports for RealPorts<'a, R, W>
             raise(&mut self.faults);
             return Accepted::Failed;
         };
-        if !door.knocked {
-            return Accepted::NotYet;
-        }
-        if !self.held.has_room() {
-            door.tell_full(self.runtime, self.held.clients(), self.last);
+        if !door.is_open() || !self.held.has_room() {
             return Accepted::NotYet;
         }
         let client = door.client(self.held.pairs);
@@ -251,16 +247,18 @@ impl<'a, R: Net + Clock + Eprint, W: Write + Drop> Ports for RealPorts<'a, R, W>
     }
 
     fn connect(&mut self, pair: u32) -> Linked {
-        match self.upstream.stream(self.runtime, self.door.as_ref(), pair) {
-            Ok(stream) => {
-                if self.held.has_space()
-                    && let Some(unsent) = self.held.buffer_for(pair)
-                {
-                    self.held.connect(pair, stream, unsent);
-                    return Linked::Ok;
+        if let Some(door) = &mut self.door {
+            match door.link(self.runtime, pair, self.last) {
+                Ok(stream) => {
+                    if self.held.has_space()
+                        && let Some(unsent) = self.held.buffer_for(pair)
+                    {
+                        self.held.connect(pair, stream, unsent);
+                        return Linked::Ok;
+                    }
                 }
+                Err(error) => door.doubt(self.runtime, Some(error), self.last),
             }
-            Err(error) => self.upstream.tell(self.runtime, Some(error), self.last),
         }
         raise(&mut self.faults);
         Linked::Failed
@@ -273,9 +271,21 @@ impl<'a, R: Net + Clock + Eprint, W: Write + Drop> Ports for RealPorts<'a, R, W>
         let got = self.held.links[at].read(&mut self.piece, buf);
         if got == Got::Failed {
             raise(&mut self.faults);
-            if end == End::Up {
-                let why = self.held.links[at].out.why.take();
-                self.upstream.tell(self.runtime, why, self.last);
+        }
+        if end == End::Up
+            && let Some(door) = &mut self.door
+        {
+            match got {
+                Got::Failed => {
+                    let why = self.held.links[at].out.why.take();
+                    door.doubt(self.runtime, why, self.last);
+                }
+                // The gateway ends an upstream stream itself, unless the container fails.
+                Got::Ended => {
+                    let why = ErrorKind::UnexpectedEof.into();
+                    door.doubt(self.runtime, Some(why), self.last);
+                }
+                Got::Bytes(_) | Got::NotYet => {}
             }
         }
         got
@@ -288,9 +298,11 @@ impl<'a, R: Net + Clock + Eprint, W: Write + Drop> Ports for RealPorts<'a, R, W>
         let put = self.held.links[at].out.write(bytes);
         if put == Put::Failed {
             raise(&mut self.faults);
-            if end == End::Up {
+            if end == End::Up
+                && let Some(door) = &mut self.door
+            {
                 let why = self.held.links[at].out.why.take();
-                self.upstream.tell(self.runtime, why, self.last);
+                door.doubt(self.runtime, why, self.last);
             }
         }
         put
@@ -346,6 +358,10 @@ impl<'a, R: Net + Clock + Eprint, W: Write + Drop> Ports for RealPorts<'a, R, W>
         match elapsed(self.runtime, self.start) {
             Some(moment) => self.last = self.last.max(moment),
             None => raise(&mut self.faults),
+        }
+        if let Some(door) = &mut self.door {
+            door.go_on(self.runtime, self.last);
+            door.tell_full(self.runtime, &self.held, self.last);
         }
         self.last
     }

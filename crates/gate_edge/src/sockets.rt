@@ -62,10 +62,44 @@ pub(crate) fn spare_descriptors<F: AsFd>(
     Ok(copies.len())
 }
 
+/// Whether a stream that began to connect is connected. `Err` where it can't be.
+pub(crate) fn is_connected(stream: &TcpStream) -> io::Result<bool> {
+    if let Some(error) = stream.take_error()? {
+        return Err(error);
+    }
+    let Ok(peer) = stream.peer_addr() else {
+        return Ok(false);
+    };
+    // Where nobody listens at a port of this machine, the system may have given it to the stream.
+    if stream.local_addr()? == peer {
+        return Err(ErrorKind::ConnectionRefused.into());
+    }
+    Ok(true)
+}
+
 /// The first address of a name or of numbers, with a port. It may wait for the system.
 pub(crate) fn address_of(net: &impl Net, text: &str) -> io::Result<SocketAddr> {
     match text.to_socket_addrs(net)?.next() {
         Some(address) => Ok(address),
         None => Err(ErrorKind::AddrNotAvailable.into()),
     }
+}
+
+/// All of them, in the order in which the system gives them, in place of those that were found
+/// before. Where it gives none those stay.
+pub(crate) fn addresses_of(
+    net: &impl Net,
+    text: &str,
+    addresses: &mut Vec<SocketAddr>,
+) -> io::Result<()> {
+    let mut found = text.to_socket_addrs(net)?;
+    let Some(first) = found.next() else {
+        return Err(ErrorKind::AddrNotAvailable.into());
+    };
+    addresses.clear();
+    addresses.push(first)?;
+    for address in found {
+        addresses.push(address)?;
+    }
+    Ok(())
 }

@@ -3,6 +3,7 @@
 use libc::net as c;
 use libc::types::pollfd;
 use mio::net::TcpListener;
+use std::fmt::Display;
 use std::io;
 use std::io::Eprint;
 use std::net::SocketAddr;
@@ -27,16 +28,20 @@ fn is_ready(fd: i32, events: i16) -> bool {
 }
 
 /// Tells at which address clients are awaited, or why at none.
-pub(crate) fn tell_listening(runtime: &impl Eprint, text: &str, bound: &io::Result<TcpListener>) {
+pub(crate) fn tell_listening<A: Display>(
+    runtime: &impl Eprint,
+    wanted: &A,
+    bound: &io::Result<TcpListener>,
+) {
     if !may_write(libc::STDERR_FILENO) {
         return;
     }
     let _ = match bound {
         Ok(listener) => match listener.local_addr() {
             Ok(address) => eprintln!(runtime; "listening on {address}"),
-            Err(_) => eprintln!(runtime; "listening on {text}"),
+            Err(_) => eprintln!(runtime; "listening on {wanted}"),
         },
-        Err(error) => eprintln!(runtime; "cannot listen on {text}: {error}"),
+        Err(error) => eprintln!(runtime; "cannot listen on {wanted}: {error}"),
     };
 }
 
@@ -86,6 +91,24 @@ pub(crate) fn tell_container(
         }
         (None, _) => eprintln!(runtime; "the container's address is not known"),
     };
+}
+
+/// Tells that no address of the container can be reached, and why not the last one.
+pub(crate) fn tell_lost(runtime: &impl Eprint, text: &str, error: &io::Error) {
+    if may_write(libc::STDERR_FILENO) {
+        let _ = eprintln!(runtime;
+            "the container at {text} cannot be reached, clients are refused: {error}"
+        );
+    }
+}
+
+/// Tells that the container can be reached after all.
+pub(crate) fn tell_reached(runtime: &impl Eprint, address: Option<SocketAddr>) {
+    if may_write(libc::STDERR_FILENO)
+        && let Some(address) = address
+    {
+        let _ = eprintln!(runtime; "the container at {address} is reached");
+    }
 }
 
 /// Tells why the standard output failed: what the system said, or else that it took nothing.

@@ -16,6 +16,9 @@ const EVENTS: usize = 1_024;
 /// The name of the listener. An end's name is less.
 const LISTENER: usize = usize::MAX;
 
+/// The name of the stream by which the container is tried.
+const TRY: usize = usize::MAX - 1;
+
 /// The sockets that the system watches, and what it said of them last. It says each change once.
 #[derive(Drop)]
 pub(crate) struct Watch {
@@ -28,6 +31,8 @@ pub(crate) struct Watch {
 pub(crate) enum Said {
     /// A client may wait.
     Listener,
+    /// The stream by which the container is tried may be connected, or have failed.
+    Try,
     /// An end may be read, or written.
     End {
         pair: u32,
@@ -53,9 +58,24 @@ impl Watch {
     }
 
     pub(crate) fn add_end(&self, stream: &mut TcpStream, pair: u32, end: End) -> io::Result<()> {
-        let registry = self.poll.registry();
+        self.add(stream, name_of(pair, end))
+    }
+
+    /// Watches the stream by which the container is tried.
+    pub(crate) fn add_try(&self, stream: &mut TcpStream) -> io::Result<()> {
+        self.add(stream, Token(TRY))
+    }
+
+    fn add(&self, stream: &mut TcpStream, name: Token) -> io::Result<()> {
         let both = Interest::READABLE | Interest::WRITABLE;
-        registry.register(stream, name_of(pair, end), both)
+        self.poll.registry().register(stream, name, both)
+    }
+
+    /// Watches a stream by which the container was tried as the upstream end of a pair.
+    pub(crate) fn rename(&self, stream: &mut TcpStream, pair: u32) -> io::Result<()> {
+        let both = Interest::READABLE | Interest::WRITABLE;
+        let name = name_of(pair, End::Up);
+        self.poll.registry().reregister(stream, name, both)
     }
 
     /// Waits until the system says something, for so long at most.
@@ -75,6 +95,9 @@ pub(crate) fn said_by(event: &Event) -> Option<Said> {
     let Token(name) = event.token();
     if name == LISTENER {
         return Some(Said::Listener);
+    }
+    if name == TRY {
+        return Some(Said::Try);
     }
     Some(Said::End {
         pair: u32::try_from(name / 2).ok()?,

@@ -4,7 +4,7 @@ use Rattle.std.proofs.Common.{not, cond, ap, sym, refl, ◌∙◌, Option, None,
 use Rattle.std.proofs.Common.{length, get_or, add-zero, subst}
 use Rattle.std.proofs.lemmas.Option.{none-some}
 use Rattle.std.proofs.lemmas.Bool.{eqb-true, eq-eqb, and_parts, or_parts}
-use Rattle.std.specs.Prelude.{slice_get, nat_eq, nat_lt, IfSome, IfNone}
+use Rattle.std.specs.Prelude.{slice_get, nat_eq, nat_lt, is_some, IfSome, IfNone}
 use Rattle.std.specs.List.{remove, position, position_or_len}
 use Rattle.std.proofs.lemmas.Option.{slice_get-get_or}
 use Rattle.std.proofs.lemmas.List.Quantifiers.{position-Some}
@@ -151,3 +151,9 @@ none_below n xs e = subst (AreBelow n) (sym e) tt
 
 pub none_distinct : (xs : List (ℕ × End)) → xs ≡ [] → AreDistinct xs
 none_distinct xs e = subst AreDistinct (sym e) tt
+
+-- a search finds an end exactly where it is open
+pub scanned_is : (r : Option ℕ) (xs : List (ℕ × End)) (p : ℕ) (e : End) → r ≡ position (is_end p e) xs
+    → is_some r ≡ is_open p e xs
+scanned_is (Some i) xs p e h = sym (stands_open xs i p e (position_stands xs i p e (sym h)))
+scanned_is None xs p e h = sym (position_free xs p e (sym h))

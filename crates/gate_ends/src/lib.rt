@@ -9,6 +9,7 @@ mod outgoing;
 mod pace;
 mod partings;
 mod pieces;
+mod tries;
 mod unsent;
 
 pub use answers::{accepted_of, got_of, is_used_up, is_waiting, is_waiting_to_accept, put_of};
@@ -18,4 +19,5 @@ pub use outgoing::Outgoing;
 pub use pace::Pace;
 pub use partings::Parting;
 pub use pieces::{PIECE, read_into};
+pub use tries::{Reach, Tries};
 pub use unsent::Unsent;

@@ -5,7 +5,8 @@ ghost use Rattle.std.specs.Prelude.{IsTrue, IfOk, IfSome, IfNone, slice_get, vec
 ghost use Rattle.std.specs.List.{position};
 ghost use Rattle.gate_outside.specs.Ends.{is_end, is_open, closed};
 ghost use Rattle.gate_outside.specs.OpenEnds.{AreBelow, AreDistinct};
-ghost use Rattle.gate_ends.specs.OpenEnds.{clients_of, HasRoom, AreBelow-prop, AreDistinct-prop};
+ghost use Rattle.gate_ends.specs.OpenEnds.{clients_of, pairs_of, stands_for_pair, HasRoom};
+ghost use Rattle.gate_ends.specs.OpenEnds.{AreBelow-prop, AreDistinct-prop};
 ghost use Rattle.gate_ends.specs.declared.open_ends.TheConstants.{PAIRS, ENDS};
 
 use crate::link::Link;
@@ -73,6 +74,29 @@ fn place_of(pair: u32, end: End) -> usize {
     (pair as usize * 2 + side) % PLACES
 }
 
+/// Whether an end is open.
+fn is_open(ends: &[(u32, End)], pair: u32, end: End) -> bool
+    ensures { result ≡ is_open pair end ends.now }
+{
+    scan(ends, pair, end).is_some()
+}
+
+/// Whether an end stands for its pair: a client's, or one upstream without it.
+fn stands_for_pair(ends: &[(u32, End)], this: &(u32, End)) -> bool
+    ensures { result ≡ stands_for_pair ends.now this.now }
+{
+    this.1 == End::Client || !is_open(ends, this.0, End::Client)
+}
+
+/// How many pairs have an open end.
+fn pairs_in(ends: &[(u32, End)]) -> usize
+    ensures { result ≡ pairs_of ends.now }
+{
+    ends.iter()
+        .filter(|this| stands_for_pair(ends, this))
+        .count()
+}
+
 /// How many of the ends are clients'.
 fn clients_in(ends: &[(u32, End)]) -> usize
     ensures { result ≡ clients_of ends.now }
@@ -116,6 +140,13 @@ impl<S: Read + Write + Drop> OpenEnds<S> {
         ensures { result ≡ clients_of self.now.ends.items }
     {
         self.clients
+    }
+
+    /// How many pairs have an open end. It goes over all ends.
+    pub fn pairs_open(&self) -> usize
+        ensures { result ≡ pairs_of self.now.ends.items }
+    {
+        pairs_in(&self.ends)
     }
 
     /// Where an end stands among the open ones.

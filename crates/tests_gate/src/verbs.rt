@@ -277,6 +277,8 @@ pub const TOLD: u64 = 137;
 
 pub const TRANSFER: u64 = 138;
 
+pub const TRIES: u64 = 146;
+
 pub const TRUNCATE: u64 = 139;
 
 pub const VALUE: u64 = 140;

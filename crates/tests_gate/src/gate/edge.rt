@@ -8,6 +8,7 @@
 //! | `writer N KIND COUNT`, bytes | what a sink takes of the bytes |
 //! | `report LINES KIND COUNT`, bytes | how many lines the report takes, the last answer, and whether all goes |
 //! | `pace MS MS MS MS` | whether a line is told at each of four moments, and at 1,999 |
+//! | `tries COUNT FAILS TOOK MS` | what is known of a server with so many addresses that was reached, once so many tries failed |
 //! | `end N KIND COUNT ROOM` | pair 3's client's end is opened with room for so many bytes; it counts as shut at 5 |
 //! | `end-stream 0 KIND COUNT` | its stream answers so from now on |
 //! | `end-read` | what a read of up to four bytes is answered |
@@ -30,10 +31,11 @@ use super::late::{Late, then_of};
 use crate::call::{Answer, Call, no_call, told, word_of};
 use crate::verbs::{
     END, END_FLUSH, END_LEFT, END_NOTE, END_OVER, END_READ, END_READY, END_STREAM, END_WRITE, PACE,
-    PAIRS, PAIRS_ACCEPT, PAIRS_BACK, PAIRS_CLOSE, PAIRS_FIND, PAIRS_LINK, READER, REPORT, WRITER,
+    PAIRS, PAIRS_ACCEPT, PAIRS_BACK, PAIRS_CLOSE, PAIRS_FIND, PAIRS_LINK, READER, REPORT, TRIES,
+    WRITER,
 };
 use gate_edge::{Outbox, OutboxSink, ReaderSource, WriterSink};
-use gate_ends::{Link, OpenEnds, Pace, Parting, Unsent};
+use gate_ends::{Link, OpenEnds, Pace, Parting, Tries, Unsent};
 use gate_outside::{End, Got, Sink, Source, Sunk};
 use std::alloc::Global;
 use std::rt::Clock;
@@ -122,6 +124,23 @@ fn paces(moments: [u64; 4]) -> [bool; 5] {
         pace.is_due(moments[3]),
         pace.is_due(1_999),
     ]
+}
+
+/// What is known of a server that was reached, once so many tries failed at a moment, in rounds
+/// over all addresses whose look-ups took so long.
+fn tries(count: usize, fails: u64, took: u64, moment: u64) -> Tries
+    requires { 0 < count }
+{
+    let mut tries = Tries::new(count);
+    tries.succeed();
+    tries.doubt();
+    for _ in 0..fails {
+        if tries.left == 0 {
+            tries.begin(count);
+        }
+        tries.fail(moment, took);
+    }
+    tries
 }
 
 /// What a read of up to four bytes is answered.
@@ -263,6 +282,10 @@ impl Edge {
             WRITER if !call.bytes.is_empty() => sink(alloc, late_of(call.numbers), call.bytes),
             REPORT if !call.bytes.is_empty() => report(alloc, call.numbers, call.bytes),
             PACE => told(alloc, paces(call.numbers)),
+            TRIES if call.numbers[0] > 0 => {
+                let [count, fails, took, moment] = call.numbers;
+                told(alloc, tries(count as usize, fails, took, moment))
+            }
             END => self.open(alloc, call.numbers),
             PAIRS => self.open_all(alloc, call.numbers[0]),
             _ => self.ends_call(alloc, call),

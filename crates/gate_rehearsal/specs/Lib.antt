@@ -1,0 +1,4 @@
+pub mod Messages
+pub mod Playing
+pub mod Standing
+pub mod Words
