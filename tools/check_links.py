@@ -1,5 +1,5 @@
 #!/usr/bin/env python3
-"""Checks the links and the paths that README.md, CONTRIBUTING.md and docs/*.md name, and the size of README.md.
+"""Checks the links and the paths that *.md, docs/*.md and tools/*.md name, and the size of README.md.
 
     python3 tools/check_links.py [FOLDER]
 
@@ -100,7 +100,7 @@ def faults_of(top, file):
 def main():
     top = pathlib.Path(sys.argv[1] if len(sys.argv) > 1 else pathlib.Path(__file__).parent.parent).resolve()
     faults = []
-    for file in [top / "README.md", top / "CONTRIBUTING.md", *sorted((top / "docs").glob("*.md"))]:
+    for file in [*sorted(top.glob("*.md")), *sorted((top / "docs").glob("*.md")), *sorted((top / "tools").glob("*.md"))]:
         text = file.read_text(encoding="utf-8")
         for place, fault in sorted(set(faults_of(top, file))):
             faults.append(f"{file.relative_to(top)}:{text.count(chr(10), 0, place) + 1}: {fault}")

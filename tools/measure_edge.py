@@ -691,7 +691,7 @@ MEASURES = {
 
 
 def main():
-    parser = argparse.ArgumentParser()
+    parser = argparse.ArgumentParser(description=__doc__, formatter_class=argparse.RawDescriptionHelpFormatter)
     parser.add_argument("program")
     parser.add_argument("--nice", type=int, default=0)
     parser.add_argument("--only", nargs="+", choices=MEASURES, default=list(MEASURES))

@@ -83,6 +83,8 @@ def entries(data):
 
 
 def main():
+    if len(sys.argv) not in (2, 3):
+        sys.exit(__doc__)
     with open(sys.argv[1], "rb") as capture:
         data = capture.read()
     wanted = int(sys.argv[2]) if len(sys.argv) > 2 else 0

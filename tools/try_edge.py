@@ -278,7 +278,7 @@ WORDS = {it.__name__: it for it in (full, capture, names, outage, silent, moved)
 
 
 def main():
-    parser = argparse.ArgumentParser()
+    parser = argparse.ArgumentParser(description=__doc__, formatter_class=argparse.RawDescriptionHelpFormatter)
     parser.add_argument("program")
     parser.add_argument("--only", nargs="+", choices=WORDS, default=list(WORDS))
     parser.add_argument("--serve")

@@ -85,6 +85,8 @@ def main():
     parser.add_argument("--at", default="4000,16000,64000")
     parser.add_argument("--clients", type=int, default=200)
     options = parser.parse_args()
+    if (options.container is None) == (options.upstream is None):
+        parser.error("one of --container and --upstream is wanted")
     container = gateway = None
     try:
         upstream, port, done = options.upstream, free_port(), 0

@@ -84,6 +84,8 @@ def main():
     parser.add_argument("--wait", type=int, default=300)
     parser.add_argument("--mandatory", action="store_true")
     options = parser.parse_args()
+    if (options.container is None) == (options.upstream is None):
+        parser.error("one of --container and --upstream is wanted")
     flags = ["mandatory"] if options.mandatory else []
     with tempfile.TemporaryDirectory() as folder:
         log = open(os.path.join(folder, "container"), "w+")

@@ -213,6 +213,8 @@ def main():
     parser.add_argument("--rabbitmq-c", default="/usr/share/doc/librabbitmq-dev/examples")
     parser.add_argument("--pika", default="/usr/share/doc/python-pika-doc/html/_sources/examples")
     options = parser.parse_args()
+    if (options.container is None) == (options.upstream is None):
+        parser.error("one of --container and --upstream is wanted")
     with tempfile.TemporaryDirectory() as folder:
         container = gateway = None
         try:

@@ -112,6 +112,8 @@ def watch(rig):
 
 
 def main():
+    if "--rig" not in sys.argv[1:-1]:
+        sys.exit(__doc__)
     place = sys.argv.index("--rig")
     path = sys.argv[place + 1]
     del sys.argv[place : place + 2]
